@@ -1,0 +1,10 @@
+pub mod Words
+pub mod Grow
+pub mod Driven
+pub mod Found
+pub mod Lexed
+pub mod Spelt
+pub mod Any
+pub mod Laid
+pub mod Numbers
+pub mod Theorems

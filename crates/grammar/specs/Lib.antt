@@ -1,0 +1,10 @@
+pub mod Bytes
+pub mod Faults
+pub mod Tokens
+pub mod Runs
+pub mod Words
+pub mod Reader
+pub mod TableMaker
+pub mod TermTokens
+pub mod Renders
+pub mod Theorems

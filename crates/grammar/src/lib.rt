@@ -1,0 +1,27 @@
+// What the text of a rule is, and what reading one gives, in specs/. Each function here has a theorem for its contract.
+ghost use Rattle.grammar.specs.Theorems.{Reads-exactly, Reads-once};
+
+mod bytes;
+mod fault;
+
+pub use bytes::Class;
+pub use bytes::ClassPartialEq;
+pub use fault::Fault;
+pub use fault::FaultDebug;
+pub use fault::FaultPartialEq;
+
+// A text is read exactly when it is the text of a term for which the rows suffice; the tables are then that
+// term's rows, stand for it, and keep every law of tables.
+pub fn reads_exactly()
+    ensures { λ _. ⌜ Reads-exactly 16384 1024 2048 ⌝ }
+{
+    theory::rows_stand();
+    theory::rows_lawful();
+}
+
+// A text is the text of one term at most.
+pub fn reads_once()
+    ensures { λ _. ⌜ Reads-once ⌝ }
+{
+    theory::rows_stand();
+}

@@ -1,0 +1,18 @@
+// The text of a rule: the lexer and the reader.
+mod lexer;
+mod opens;
+mod reader;
+mod tokens;
+mod turns;
+mod words;
+
+pub use lexer::token;
+pub use lexer::trim;
+pub use opens::Counts;
+pub use opens::OpenForm;
+pub use opens::Parts;
+pub use opens::Refusal;
+pub use reader::MOST_BYTES;
+pub use reader::read;
+pub use tokens::Lexed;
+pub use tokens::Token;

@@ -1,0 +1,4 @@
+pub mod Standing
+pub mod Uses
+pub mod Lawful
+pub mod Theorems
