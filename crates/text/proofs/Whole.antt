@@ -5,8 +5,8 @@ use mathlib.Core.List.{List, [], _∷_, _++_, map}
 use Prim.Native.Nat.{ℕ, zero, suc, min, _+_, _-_, _≤_, _<_}
 use native.Mathlib.Omega.{arith}
 use lib.Dec.{eqb}
-use lib.ListN.{length, take, set, replicate, length-append, length-set}
-use lib.Seq.{length-take-le, take-append-le, take-all}
+use lib.ListN.{length, take, set, length-append, length-set}
+use lib.Seq.{length-take-le, take-append-le}
 use borrow.Author.Tests.{le-ltb, ne-eqb}
 use Rattle.std.specs.declared.result.Result.{Result}
 use Rattle.std.specs.declared.result.Result.the-variants.{Ok, Err}
@@ -25,7 +25,7 @@ use Rattle.text.specs.declared.opens.OpenForm.{OpenForm}
 use Rattle.text.specs.declared.opens.Counts.{Counts}
 use Rattle.text.specs.declared.opens.Refusal.{Refusal}
 use Rattle.text.specs.Brackets.{bracket, brackets, rows-of, Tabled, Answers}
-use Rattle.text.specs.Reads.{outcome, answer, counted, made, padded, zero-type, zero-term, Filled, Ruled}
+use Rattle.text.specs.Reads.{outcome, answer, counted, made, padded, zero-type, zero-term, take-padded, Filled, Ruled}
 
 -- ---- the reading that the code begins
 
@@ -101,9 +101,6 @@ cleared z xs ys zs n t e is front long =
     e ∙ (λ i. padded z (long i) (same i))
 
 -- ---- and what the theorem on readings says of them
-
-take-padded : {X : Type 0} (z : X) (n : ℕ) (xs : List X) → take (length xs) (padded z n xs) ≡ xs
-take-padded z n xs = take-append-le (length xs) xs (replicate (n - length xs) z) (omega arith) ∙ take-all (length xs) xs (omega arith)
 
 pub ruled : (o : Outcome Tables ℕ) (r : Result Counts Refusal) (t u : ℕ) (types : List TypeRow) (terms : List TermRow) (os : List OpenForm) (bs : List ℕ)
     → r ≡ answer o → types ≡ padded zero-type t (made o .0) → terms ≡ padded zero-term u (made o .1) → length types ≡ t → length terms ≡ u

@@ -1,8 +1,10 @@
 -- What reading a text answers, and what it leaves in the two tables.
-use mathlib.Core.Path.{_≡_}
+use mathlib.Core.Path.{_≡_, _∙_}
 use mathlib.Core.List.{List, [], _∷_, _++_}
 use Prim.Native.Nat.{ℕ, _-_, _≤_}
+use native.Mathlib.Omega.{arith}
 use lib.ListN.{length, take, replicate}
+use lib.Seq.{take-append-le, take-all}
 use Rattle.std.specs.declared.result.Result.{Result}
 use Rattle.std.specs.declared.result.Result.the-variants.{Ok, Err}
 use Rattle.rows.specs.declared.tables.TypeRow.{TypeRow}
@@ -45,6 +47,10 @@ zero-term = leaf-row 0 0
 -- some rows, and zeros behind them, n in all
 abbrev pub padded : {X : Type 0} → X → ℕ → List X → List X
 padded z n xs = xs ++ replicate (n - length xs) z
+
+-- whose front are those rows
+pub take-padded : {X : Type 0} (z : X) (n : ℕ) (xs : List X) → take (length xs) (padded z n xs) ≡ xs
+take-padded z n xs = take-append-le (length xs) xs (replicate (n - length xs) z) (omega arith) ∙ take-all (length xs) xs (omega arith)
 
 -- an outcome, its rows at the front of both tables
 pub record Filled (r : Result Counts Refusal) (types : List TypeRow) (terms : List TermRow) (o : Outcome Tables ℕ) : Type 0 where
