@@ -111,13 +111,13 @@ module _ (os os′ : List OpenForm) (o : OpenForm) (s : Tables) where
       let test = e ∙ ap (λ n. ltb n room) (sym (length-map os bracket)) in
       subst (λ b. Meets (t.Stop TooDeep) s (map bracket os′) (cond b (m.go s (bracket o ∷ map bracket os)) (m.stop TooDeep))) test refl
 
-pub spelt-go : (os os′ : List OpenForm) (o : OpenForm) (s : Tables) → (length os ≡ 0 → ⊥) → os′ ≡ set os 0 o → Meets t.Go s (map bracket os′) (m.replaced (Some (bracket o)) s (map bracket os))
-spelt-go [] os′ o s ne h = absurd (ne refl)
-spelt-go (x ∷ xs) os′ o s ne h = (refl, refl, ap (map bracket) h)
+pub spelt-go : (os os′ : List OpenForm) (x o : OpenForm) (s : Tables) → Some x ≡ nth os 0 → os′ ≡ set os 0 o → Meets t.Go s (map bracket os′) (m.replaced (Some (bracket o)) s (map bracket os))
+spelt-go [] os′ x o s e h = let z : _≡_ {A = ℕ} 0 1 = cc in absurd (omega arith)
+spelt-go (y ∷ ys) os′ x o s e h = (refl, refl, ap (map bracket) h)
 
-pub spelt-stop : (os os′ : List OpenForm) (o : OpenForm) (s : Tables) → length os ≡ 0 → Meets (t.Stop Misplaced) s (map bracket os′) (m.replaced (Some (bracket o)) s (map bracket os))
+pub spelt-stop : (os os′ : List OpenForm) (o : OpenForm) (s : Tables) → None ≡ nth os 0 → Meets (t.Stop Misplaced) s (map bracket os′) (m.replaced (Some (bracket o)) s (map bracket os))
 spelt-stop [] os′ o s e = refl
-spelt-stop (x ∷ xs) os′ o s e = absurd (omega arith)
+spelt-stop (y ∷ ys) os′ o s e = let z : _≡_ {A = ℕ} 0 1 = cc in absurd (omega arith)
 
 -- the turn, from an answer that meets it
 module _ (s : Tables) (fs : List (Bracket ℕ ℕ)) where

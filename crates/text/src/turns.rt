@@ -244,11 +244,13 @@ fn spell(opens: &mut Stack<OpenForm>, o: OpenForm) -> Turn
     ensures turned { λ r. ⌜ ((s : Tables) → Meets r s (brackets (now (opens .exit))) (replaced (Some (bracket o)) s (brackets (now (opens .entry))))) ⌝ }
     ensures capacity { λ _. ⌜ room (now (opens .exit)) ≡ room (now (opens .entry)) ⌝ }
 {
-    if opens.len() == 0 {
-        return Turn::Stop(Fault::Misplaced);
+    match opens.top() {
+        None => Turn::Stop(Fault::Misplaced),
+        Some(_) => {
+            opens.replace_top(o);
+            Turn::Go
+        }
     }
-    opens.replace_top(o);
-    Turn::Go
 }
 
 // Makes the row of the bracket on top, which is whole.

@@ -82,11 +82,4 @@ impl<'a, T: Copy> Stack<'a, T> {
             self.slots[self.height - 1] = x;
         }
     }
-
-    // How many entries there are.
-    pub fn len(&self) -> usize
-        ensures { λ r. ⌜ r ≡ length (view (now (self .entry))) ⌝ }
-    {
-        self.height
-    }
 }
