@@ -186,19 +186,8 @@ fn rule_in(input: &[u8]) -> &[u8]
 fn list_rule(heap: Global, rule: &[u8]) -> Result<String, AllocError>
     ensures { λ r. ⌜ «made-so» r (λ s. string-bytes s ≡ shown (now (rule .entry))) ⌝ }
 {
-    let mut types = [TypeRow {
-        kind: 0,
-        left: 0,
-        right: 0,
-    }; MOST_TYPES];
-    let mut terms = [TermRow {
-        kind: 0,
-        ty: 0,
-        number: 0,
-        a: 0,
-        b: 0,
-        c: 0,
-    }; MOST_TERMS];
+    let mut types = [TypeRow::ZERO; MOST_TYPES];
+    let mut terms = [TermRow::ZERO; MOST_TERMS];
     let mut opens = [OpenForm::TermWord; OPEN_ROWS];
     match text::read(rule, &mut types, &mut terms, &mut opens) {
         Ok(n) => list_made(heap, &types, &terms, n),

@@ -8,6 +8,15 @@ pub struct TypeRow {
     pub right: u32,
 }
 
+impl TypeRow {
+    // Also the row of nat.
+    pub const ZERO: TypeRow = TypeRow {
+        kind: 0,
+        left: 0,
+        right: 0,
+    };
+}
+
 // A term: its type row, its number, and the earlier rows of its parts.
 #[derive(Clone, Copy, PartialEq, Eq, Debug)]
 pub struct TermRow {
@@ -17,4 +26,15 @@ pub struct TermRow {
     pub a: u32,
     pub b: u32,
     pub c: u32,
+}
+
+impl TermRow {
+    pub const ZERO: TermRow = TermRow {
+        kind: 0,
+        ty: 0,
+        number: 0,
+        a: 0,
+        b: 0,
+        c: 0,
+    };
 }

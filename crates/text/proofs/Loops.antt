@@ -13,11 +13,7 @@ use Rattle.grammar.specs.Reader.{Bracket, Outcome, reading}
 use Rattle.grammar.specs.TableMaker.{into-tables}
 use Rattle.text.specs.declared.opens.OpenForm.{OpenForm}
 use Rattle.text.specs.declared.opens.Counts.{Counts}
-use Rattle.text.specs.Brackets.{brackets, rows-of, Tabled}
-
--- the reading that is left
-abbrev pub left : ℕ → List ℕ → List TypeRow → List TermRow → Counts → Stack OpenForm → Outcome Tables ℕ
-left long bs types terms n opens = reading (into-tables (length types) (length terms)) (room opens) long (suc (length bs)) bs (rows-of types terms n) (brackets opens)
+use Rattle.text.specs.Brackets.{Tabled, left}
 
 -- what a loop over tokens keeps
 pub record Sofar (text rest : List ℕ) (types types′ : List TypeRow) (terms terms′ : List TermRow) (n n′ : Counts) (opens opens′ : Stack OpenForm) : Type 0 where

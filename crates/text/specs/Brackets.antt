@@ -2,7 +2,7 @@
 use mathlib.Core.Path.{_≡_}
 use mathlib.Core.Bool.{cond}
 use mathlib.Core.List.{List, [], _∷_, _++_, map}
-use Prim.Native.Nat.{ℕ, _≤_, _<_}
+use Prim.Native.Nat.{ℕ, suc, _≤_, _<_}
 use lib.Dec.{ltb}
 use lib.ListN.{length, take}
 use Rattle.std.specs.declared.option.Option.{Option}
@@ -15,6 +15,8 @@ use Rattle.rows.specs.declared.tables.TermRow.{TermRow}
 use Rattle.rows.specs.Forms.{types, parts}
 use Rattle.rows.specs.Views.{view, room}
 use Rattle.theory.specs.Emit.{Tables}
+use Rattle.grammar.specs.TableMaker.{into-tables}
+use Rattle.grammar.specs.Tokens.{Tok}
 use Rattle.grammar.specs.Reader as m
 use Rattle.grammar.specs.Reader.{Bracket, Outcome}
 use Rattle.text.specs.declared.opens.Parts.{Parts}
@@ -84,6 +86,16 @@ pub record Tabled (types : List TypeRow) (terms : List TermRow) (n : Counts) : T
   pub few-types : length types ≤ 1024
   pub few-terms : length terms ≤ 2048
 
+-- what the account says of a token, from the tables, the counts and the open brackets that there are
+abbrev pub closed-in : List TypeRow → List TermRow → Counts → Stack OpenForm → m.Turn Tables ℕ ℕ
+closed-in types terms n opens = m.closed (into-tables (length types) (length terms)) (room opens) (rows-of types terms n) (brackets opens)
+
+abbrev pub met-in : m.Want → Tok → List TypeRow → List TermRow → Counts → Stack OpenForm → m.Turn Tables ℕ ℕ
+met-in w t types terms n opens = m.meet (into-tables (length types) (length terms)) (room opens) w t (rows-of types terms n) (brackets opens)
+
+abbrev pub turn-in : Tok → List TypeRow → List TermRow → Counts → Stack OpenForm → m.Turn Tables ℕ ℕ
+turn-in t types terms n opens = m.turn (into-tables (length types) (length terms)) (room opens) t (rows-of types terms n) (brackets opens)
+
 -- a turn's answer and what it leaves, where the turn is e
 pub record After (r : Turn) (types : List TypeRow) (terms : List TermRow) (n : Counts) (opens opens′ : Stack OpenForm) (e : m.Turn Tables ℕ ℕ) : Type 0 where
   pub turned : Meets r (rows-of types terms n) (brackets opens′) e
@@ -99,3 +111,7 @@ Answers a s (m.refused-at k p) = a ≡ Err (record { fault = k; place = p })
 abbrev pub Goes : Next → (List ℕ → Outcome Tables ℕ) → List ℕ → Tables → Outcome Tables ℕ → Type 0
 Goes (n.Go after) on rest s e = (length (after .now) < length rest) × (e ≡ on (after .now))
 Goes (n.End a) on rest s e = Answers a s e
+
+-- the reading of bs from there on, as a part of a text that is `long` bytes long
+abbrev pub left : ℕ → List ℕ → List TypeRow → List TermRow → Counts → Stack OpenForm → Outcome Tables ℕ
+left long bs types terms n opens = m.reading (into-tables (length types) (length terms)) (room opens) long (suc (length bs)) bs (rows-of types terms n) (brackets opens)

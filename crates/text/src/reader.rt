@@ -1,13 +1,12 @@
 // Reads the text of a rule into its two tables.
 ghost use mathlib.Core.Path.{_≡_};
-ghost use Prim.Native.Nat.{ℕ, suc, _-_, _≤_};
+ghost use Prim.Native.Nat.{_-_, _≤_};
 ghost use lib.ListN.{length, take, replicate};
 ghost use Rattle.rows.specs.Views.{room};
 ghost use Rattle.theory.specs.Emit.{Tables};
 ghost use Rattle.grammar.specs.Tokens.{token as «token-of», trimmed};
-ghost use Rattle.grammar.specs.Reader.{ended, reading};
-ghost use Rattle.grammar.specs.TableMaker.{«into-tables»};
-ghost use Rattle.text.specs.Brackets.{brackets, «rows-of», Tabled, Answers, Goes};
+ghost use Rattle.grammar.specs.Reader.{ended};
+ghost use Rattle.text.specs.Brackets.{«rows-of», Tabled, Answers, Goes, left};
 ghost use Rattle.text.specs.Reads.{outcome, answer as «answer-of», counted, made as «made-of», «zero-type», «zero-term», padded, Filled, Ruled};
 use crate::lexer;
 use crate::opens::Counts;
@@ -55,7 +54,7 @@ fn next<'a>(
 ) -> Next<'a>
     requires tabled { ⌜ Tabled (now types) (now terms) (now counts) ⌝ }
     requires within { ⌜ length (now rest) ≤ long ⌝ }
-    ensures goes { λ r. ⌜ Goes r (λ bs. reading («into-tables» (length (now (types .entry))) (length (now (terms .entry)))) (room (now (opens .entry))) long (suc (length bs)) bs («rows-of» (now (types .exit)) (now (terms .exit)) (now (counts .exit))) (brackets (now (opens .exit)))) (now (rest .entry)) («rows-of» (now (types .exit)) (now (terms .exit)) (now (counts .exit))) (reading («into-tables» (length (now (types .entry))) (length (now (terms .entry)))) (room (now (opens .entry))) long (suc (length (now (rest .entry)))) (now (rest .entry)) («rows-of» (now (types .entry)) (now (terms .entry)) (now (counts .entry))) (brackets (now (opens .entry)))) ⌝ }
+    ensures goes { λ r. ⌜ Goes r (λ bs. left long bs (now (types .exit)) (now (terms .exit)) (now (counts .exit)) (now (opens .exit))) (now (rest .entry)) («rows-of» (now (types .exit)) (now (terms .exit)) (now (counts .exit))) (left long (now (rest .entry)) (now (types .entry)) (now (terms .entry)) (now (counts .entry)) (now (opens .entry))) ⌝ }
     ensures tabled { λ _. ⌜ Tabled (now (types .exit)) (now (terms .exit)) (now (counts .exit)) ⌝ }
     ensures capacity { λ _. ⌜ room (now (opens .exit)) ≡ room (now (opens .entry)) ⌝ }
 {
@@ -84,7 +83,7 @@ fn run(
     opens: &mut Stack<OpenForm>,
 ) -> Result<u32, Refusal>
     requires { ⌜ Tabled (now types) (now terms) (now counts) ⌝ }
-    ensures answers { λ r. ⌜ Answers r («rows-of» (now (types .exit)) (now (terms .exit)) (now (counts .exit))) (reading («into-tables» (length (now (types .entry))) (length (now (terms .entry)))) (room (now (opens .entry))) (length (now (text .entry))) (suc (length (now (text .entry)))) (now (text .entry)) («rows-of» (now (types .entry)) (now (terms .entry)) (now (counts .entry))) (brackets (now (opens .entry)))) ⌝ }
+    ensures answers { λ r. ⌜ Answers r («rows-of» (now (types .exit)) (now (terms .exit)) (now (counts .exit))) (left (length (now (text .entry))) (now (text .entry)) (now (types .entry)) (now (terms .entry)) (now (counts .entry)) (now (opens .entry))) ⌝ }
     ensures tabled { λ _. ⌜ Tabled (now (types .exit)) (now (terms .exit)) (now (counts .exit)) ⌝ }
 {
     let long = text.len();
@@ -118,11 +117,7 @@ fn fill(
             place: 0,
         });
     }
-    types[0] = TypeRow {
-        kind: 0,
-        left: 0,
-        right: 0,
-    };
+    types[0] = TypeRow::ZERO;
     let type_room = types.len().min(MOST_TYPES);
     let term_room = terms.len().min(MOST_TERMS);
     let mut counts = Counts { types: 1, terms: 0 };
@@ -181,26 +176,7 @@ pub fn read(
     grammar::reads_exactly();
     let answer = fill(text, types, terms, opens);
     let (made_types, made_terms) = made_by(answer);
-    clear_rest(
-        types,
-        made_types,
-        TypeRow {
-            kind: 0,
-            left: 0,
-            right: 0,
-        },
-    );
-    clear_rest(
-        terms,
-        made_terms,
-        TermRow {
-            kind: 0,
-            ty: 0,
-            number: 0,
-            a: 0,
-            b: 0,
-            c: 0,
-        },
-    );
+    clear_rest(types, made_types, TypeRow::ZERO);
+    clear_rest(terms, made_terms, TermRow::ZERO);
     answer
 }

@@ -9,10 +9,10 @@ ghost use Rattle.rows.specs.Views.{room};
 ghost use Rattle.rows.specs.declared.tables.TypeRow.{TypeRow};
 ghost use Rattle.rows.specs.declared.tables.TermRow.{TermRow};
 ghost use Rattle.theory.specs.Emit.{Tables};
-ghost use Rattle.grammar.specs.Reader.{wanted, «a-term», «a-type», «a-term-word», «a-type-word», give, «give-type», made, «made-type», opened, replaced, closed, meet, turn as «turn-of»};
+ghost use Rattle.grammar.specs.Reader.{wanted, «a-term», «a-type», «a-term-word», «a-type-word», give, «give-type», made, «made-type», opened, replaced, meet};
 ghost use Rattle.grammar.specs.TableMaker.{«into-tables», «row-made», «type-made»};
 ghost use Rattle.text.specs.Tokens.{tok as «tok-of»};
-ghost use Rattle.text.specs.Brackets.{listed, bracket, brackets, want as «want-of», each, «with-part», «with-type» as «type-more», Meets, «rows-of», Tabled, After};
+ghost use Rattle.text.specs.Brackets.{listed, bracket, brackets, want as «want-of», each, «with-part», «with-type» as «type-more», Meets, Tabled, After, «closed-in», «met-in», «turn-in»};
 use crate::opens::Counts;
 use crate::opens::OpenForm;
 use crate::opens::Parts;
@@ -261,7 +261,7 @@ fn close(
     opens: &mut Stack<OpenForm>,
 ) -> Turn
     requires { ⌜ Tabled (now types) (now terms) (now counts) ⌝ }
-    ensures { λ r. ⌜ After r (now (types .exit)) (now (terms .exit)) (now (counts .exit)) (now (opens .entry)) (now (opens .exit)) (closed («into-tables» (length (now (types .entry))) (length (now (terms .entry)))) (room (now (opens .entry))) («rows-of» (now (types .entry)) (now (terms .entry)) (now (counts .entry))) (brackets (now (opens .entry)))) ⌝ }
+    ensures { λ r. ⌜ After r (now (types .exit)) (now (terms .exit)) (now (counts .exit)) (now (opens .entry)) (now (opens .exit)) («closed-in» (now (types .entry)) (now (terms .entry)) (now (counts .entry)) (now (opens .entry))) ⌝ }
 {
     match opens.pop() {
         None => Turn::Stop(Fault::Misplaced),
@@ -313,7 +313,7 @@ fn on_term(
     tok: Token,
 ) -> Turn
     requires { ⌜ Tabled (now types) (now terms) (now counts) ⌝ }
-    ensures { λ r. ⌜ After r (now (types .exit)) (now (terms .exit)) (now (counts .exit)) (now (opens .entry)) (now (opens .exit)) (meet («into-tables» (length (now (types .entry))) (length (now (terms .entry)))) (room (now (opens .entry))) «a-term» («tok-of» (tok .entry)) («rows-of» (now (types .entry)) (now (terms .entry)) (now (counts .entry))) (brackets (now (opens .entry)))) ⌝ }
+    ensures { λ r. ⌜ After r (now (types .exit)) (now (terms .exit)) (now (counts .exit)) (now (opens .entry)) (now (opens .exit)) («met-in» «a-term» («tok-of» (tok .entry)) (now (types .entry)) (now (terms .entry)) (now (counts .entry)) (now (opens .entry))) ⌝ }
 {
     match tok {
         Token::Open => open(opens, OpenForm::TermWord),
@@ -376,7 +376,7 @@ pub(crate) fn turn(
     tok: Token,
 ) -> Turn
     requires { ⌜ Tabled (now types) (now terms) (now counts) ⌝ }
-    ensures { λ r. ⌜ After r (now (types .exit)) (now (terms .exit)) (now (counts .exit)) (now (opens .entry)) (now (opens .exit)) («turn-of» («into-tables» (length (now (types .entry))) (length (now (terms .entry)))) (room (now (opens .entry))) («tok-of» (tok .entry)) («rows-of» (now (types .entry)) (now (terms .entry)) (now (counts .entry))) (brackets (now (opens .entry)))) ⌝ }
+    ensures { λ r. ⌜ After r (now (types .exit)) (now (terms .exit)) (now (counts .exit)) (now (opens .entry)) (now (opens .exit)) («turn-in» («tok-of» (tok .entry)) (now (types .entry)) (now (terms .entry)) (now (counts .entry)) (now (opens .entry))) ⌝ }
 {
     match want(opens) {
         Want::Term => on_term(types, terms, counts, opens, tok),

@@ -12,6 +12,7 @@ use Rattle.std.specs.declared.result.Result.the-variants.{Err}
 use Rattle.text.specs.Brackets.{rows-of, brackets, Answers}
 use Rattle.text.proofs.Tops.{went, ended-with, stopped-with}
 use Rattle.text.proofs.Fuel.{at-go, at-done, at-stop}
+use Rattle.text.proofs.Loops.{moved}
 use Rattle.text.proofs.reader.next.Needs as need
 use Rattle.text.proofs.reader.next.Needs.{In-Took}
 
@@ -34,8 +35,14 @@ returns-in-Go c =
     let fs = brackets (c .args .opens .now) in
     let s′ = rows-of (c .turn .last .types) (c .turn .last .terms) (c .turn .last .counts) in
     let fs′ = brackets (c .turn .last .opens) in
+    let types : length (c .args .types .now) ≡ length (c .turn .last .types) = omega arith in
+    let terms : length (c .args .terms .now) ≡ length (c .turn .last .terms) = omega arith in
     record {
-      goes = (shorter bs cs _ k, at-go m (room (c .args .opens .now)) (c .args .long) bs s fs (tok (c .in-Took .tok)) cs k s′ fs′ (went s′ fs′ _ (c .in-Go .ensures tt .turned)));
+      goes = (
+        shorter bs cs _ k,
+        at-go m (room (c .args .opens .now)) (c .args .long) bs s fs (tok (c .in-Took .tok)) cs k s′ fs′ (went s′ fs′ _ (c .in-Go .ensures tt .turned))
+            ∙ moved _ _ _ _ _ _ (c .args .long) (suc (length cs)) cs s′ fs′ types terms (sym (c .turn .ensures .capacity)),
+      );
       tabled = c .turn .ensures .tabled;
       capacity = c .turn .ensures .capacity;
     }
