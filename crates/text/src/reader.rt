@@ -63,7 +63,7 @@ fn next<'a>(
     match lexer::token(start) {
         Lexed::Over => Next::End(Err(Refusal {
             fault: Fault::Misplaced,
-            place: long,
+            place,
         })),
         Lexed::Refused(fault) => Next::End(Err(Refusal { fault, place })),
         Lexed::Took(tok, after) => match turns::turn(types, terms, counts, opens, tok) {
