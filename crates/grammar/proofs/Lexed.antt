@@ -104,7 +104,7 @@ run-front k (b ∷ bs) = go (alike (class b) k) refl (run-front k bs)
     go true e h = ap (λ t. cond t (suc (run k (take (run k bs) bs))) 0) e ∙ ap suc h
     go false e h = refl
 
-run-after : (k : Class) (bs : List ℕ) → run k (drop (run k bs) bs) ≡ 0
+pub run-after : (k : Class) (bs : List ℕ) → run k (drop (run k bs) bs) ≡ 0
 run-after k [] = refl
 run-after k (b ∷ bs) = go (alike (class b) k) refl (run-after k bs)
   where

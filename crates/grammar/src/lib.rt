@@ -1,5 +1,6 @@
 // What the text of a rule is, and what reading one gives, in specs/. Each function here has a theorem for its contract.
 ghost use Rattle.grammar.specs.Theorems.{Reads-exactly, Reads-once};
+ghost use Rattle.grammar.specs.Refusals.{Refuses-rightly};
 
 mod bytes;
 mod fault;
@@ -25,3 +26,9 @@ pub fn reads_once()
 {
     theory::rows_stand();
 }
+
+// A text that is refused is too long, or it goes wrong at the place that is named: the text before it begins the text of
+// some term, and with what stands there it does not, or only that of a term for which rows of the kind named are lacking.
+pub fn refuses_rightly()
+    ensures { λ _. ⌜ Refuses-rightly 16384 1024 2048 ⌝ }
+{}
