@@ -4,7 +4,10 @@ use mathlib.Core.Bool.{Bool, true, false, cond}
 use mathlib.Core.List.{List, [], _∷_, _++_, append-assoc, append-nil}
 use Prim.Native.Nat.{ℕ, zero, suc, _+_, _-_, _≤_, _<_}
 use native.Mathlib.Omega.{arith}
-use lib.ListN.{length, drop}
+use lib.ListN.{length, drop, length-append}
+use mathlib.Core.Logic.{⊎-elim}
+use Rattle.std.proofs.str.Laws.{order}
+use Rattle.grammar.specs.Refusals.{width}
 use Rattle.grammar.specs.declared.bytes.Class.{Class}
 use Rattle.grammar.specs.declared.bytes.Class.the-variants.{Space, Digit, Letter}
 use Rattle.grammar.specs.declared.fault.Fault.{Fault}
@@ -19,7 +22,7 @@ use Rattle.grammar.proofs.Lexed.{unspaced, token-is, Right, right, alike-true,
 use Rattle.grammar.proofs.Spelt.{Spells}
 use Rattle.grammar.proofs.Spelt as l
 use Rattle.grammar.proofs.Follows.{walk}
-use Rattle.grammar.proofs.Widths.{run-head}
+use Rattle.grammar.proofs.Widths.{run-head, token-within, drop-past}
 
 -- the tokens of a text that stands before `rest`
 pub data Before (rest : List ℕ) : List ℕ → List Tok → Type 0 where
@@ -60,6 +63,23 @@ before-more t rest h start = next (sym (append-nil (spelling t))) h start
 before-more t rest h (space b) = space (before-more t rest h b)
 before-more t rest h (next {cs = cs} {t = u} e f b) =
     next (ap (λ l. l ++ spelling t) e ∙ append-assoc (spelling u) cs (spelling t)) (subst (Fits u) (sym (append-assoc cs (spelling t) rest)) f) (before-more t rest h b)
+
+-- nothing that begins in a text of tokens goes on past it
+pub none-over : {rest bs : List ℕ} {ts : List Tok} → Before rest bs ts → (i : ℕ) → i < length bs → i + width (drop i (bs ++ rest)) ≤ length bs
+none-over start i l = absurd (omega arith)
+none-over (space b) zero l = omega arith
+none-over (space b) (suc i) l = let h = none-over b i (omega arith) in omega arith
+none-over {rest} {bs} (next {cs = cs} {t = t} e f b) i l =
+    let n = ap length e ∙ length-append (spelling t) cs in
+    let is : bs ++ rest ≡ spelling t ++ (cs ++ rest) = ap (λ x. x ++ rest) e ∙ append-assoc (spelling t) cs rest in
+    let w : width (drop i (bs ++ rest)) ≡ width (drop i (spelling t ++ (cs ++ rest))) = ap (λ x. width (drop i x)) is in
+    ⊎-elim (λ in-it. let h = token-within t (cs ++ rest) f i in-it in omega arith)
+    (λ past.
+    let h = none-over b (i - length (spelling t)) (omega arith) in
+    let d : drop i (spelling t ++ (cs ++ rest)) ≡ drop (i - length (spelling t)) (cs ++ rest) = drop-past (spelling t) (cs ++ rest) i past in
+    let v = ap width d in
+    omega arith)
+    (order i (length (spelling t)))
 
 -- and the other way round
 pub record Rest (rest : List ℕ) (ts us : List Tok) : Type 0 where

@@ -13,4 +13,5 @@ pub mod Halts
 pub mod Completes
 pub mod Walks
 pub mod Refusals
+pub mod Once
 pub mod Theorems

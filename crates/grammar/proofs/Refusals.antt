@@ -25,7 +25,7 @@ use Rattle.grammar.specs.TableMaker.{into-tables}
 use Rattle.grammar.specs.TermTokens.{toks, depth}
 use Rattle.grammar.specs.Renders.{spelling, Fits, Written, space, Renders}
 use Rattle.grammar.specs.Theorems.{outcome-within}
-use Rattle.grammar.specs.Refusals.{width, end-at, Alike, Begins, Sound, Lacking, As-few, Stands, Fault-at, Rightly, Refuses-rightly}
+use Rattle.grammar.specs.Refusals.{width, end-at, Alike, Begins, fault-of, Lacking, As-few, Stands, Fault-at, Rightly, Refuses-rightly}
 use Rattle.grammar.proofs.Grow.{grow, drive}
 use Rattle.grammar.proofs.Driven.{driven}
 use Rattle.grammar.proofs.Found.{finds}
@@ -34,7 +34,7 @@ use Rattle.grammar.proofs.Spelt.{Spells, end, next, spells}
 use Rattle.grammar.proofs.Laid.{emitted}
 use Rattle.grammar.proofs.Follows.{Good, role, walk, eb, other, wanted-other, good-other, After, turn-after, Kept, walk-after, Still, still, keeps}
 use Rattle.grammar.proofs.Widths.{Lexical, lexical, width-is, Same, Fronts, fronts, Parted, parted, take-past}
-use Rattle.grammar.proofs.Halts.{Before, start, Instead, run-instead, fits-instead, before-instead, joins, before-more, parts, Passed, Halt, Halted, halts}
+use Rattle.grammar.proofs.Halts.{Before, start, Instead, run-instead, fits-instead, before-instead, joins, before-more, none-over, parts, Passed, Halt, Halted, halts}
 use Rattle.grammar.proofs.Completes.{any, Open, Told, Plain, spaced, spaced-written, Completes, completed, given, given-type, completes}
 use Rattle.grammar.proofs.Walks.{walk-stop, walk-append, no-go, no-stop, drive-walk, walk-drive, Full, widens, Can, frees}
 
@@ -192,18 +192,18 @@ module _ (types terms opens : ℕ) (bs pre rest : List ℕ) (ts : List Tok) (b :
 
   abbrev Stood : Fault → Type 0
   Stood TooLong = ⊥
-  Stood BadByte = token rest ≡ refused BadByte
-  Stood BadNumber = token rest ≡ refused BadNumber
-  Stood Misplaced = Sound (token rest)
+  Stood BadByte = fault-of (token rest) ≡ BadByte
+  Stood BadNumber = fault-of (token rest) ≡ BadNumber
+  Stood Misplaced = fault-of (token rest) ≡ Misplaced
   Stood TooDeep = Begins (pre ++ take (width rest) rest)
   Stood NoTypeRow = Begins (pre ++ take (width rest) rest)
   Stood NoTermRow = Begins (pre ++ take (width rest) rest)
 
   lexed : (k : Fault) → token rest ≡ refused k → Stood k
   lexed TooLong e = lexical rest TooLong e
-  lexed BadByte e = e
-  lexed BadNumber e = e
-  lexed Misplaced e = absurd (lexical rest Misplaced e)
+  lexed BadByte e = ap fault-of e
+  lexed BadNumber e = ap fault-of e
+  lexed Misplaced e = ap fault-of e
   lexed TooDeep e = absurd (lexical rest TooDeep e)
   lexed NoTypeRow e = absurd (lexical rest NoTypeRow e)
   lexed NoTermRow e = absurd (lexical rest NoTermRow e)
@@ -230,7 +230,7 @@ module _ (types terms opens : ℕ) (bs pre rest : List ℕ) (ts : List Tok) (b :
     turned TooLong a = a
     turned BadByte a = absurd a
     turned BadNumber a = absurd a
-    turned Misplaced a = subst Sound (sym e) tt
+    turned Misplaced a = ap fault-of e
     turned TooDeep a = with-token (deep room (omega arith) fs (a .1) led (omega arith) (a .2) (a .4))
     turned NoTypeRow a = with-token (typed room (omega arith) (a .0) (a .1) led (a .2) (a .3) (a .4) (a .5))
     turned NoTermRow a = with-token (termed room (omega arith) (a .0) (a .1) led (a .2) (a .3) (a .4) (a .5))
@@ -239,21 +239,22 @@ module _ (types terms opens : ℕ) (bs pre rest : List ℕ) (ts : List Tok) (b :
     stopped f h = turned f (subst (λ c. After (λ s. tt) (λ x. tt) (λ y. tt) Can Can m any opens room fs c led) h (turn-after (λ s. tt) (λ x. tt) (λ y. tt) Can Can m any opens room (frees m) (omega arith) v s fs (freed room (omega arith) (go s fs) w .1)))
 
   stood : (f : Fault) (at : Turn Tables ℕ ℕ) (st : Step) → token rest ≡ st → walk m opens ts (go empty []) ≡ at → Halt′ at st f → Stood f
-  stood f (go s fs) over e w h = subst Stood (sym h) (subst Sound (sym e) tt)
+  stood f (go s fs) over e w h = subst Stood (sym h) (ap fault-of e)
   stood f (go s fs) (took v cs) e w h = stopped v cs s fs e w f h
   stood f (go s fs) (refused k) e w h = subst Stood (sym h) (lexed k e)
   stood f (done s y) over e w h = absurd h
-  stood f (done s y) (took v cs) e w h = subst Stood (sym h) (subst Sound (sym e) tt)
+  stood f (done s y) (took v cs) e w h = subst Stood (sym h) (ap fault-of e)
   stood f (done s y) (refused k) e w h = subst Stood (sym h) (lexed k e)
   stood f (stop k) st e w h = absurd h
 
 -- ---- the theorem
 
 module _ (types terms opens : ℕ) (bs : List ℕ) (short : length bs ≤ 16384) where
-  no-other-rows : (types′ terms′ opens′ : ℕ) → 0 < types′ → outcome-within 16384 1024 2048 types′ terms′ opens′ bs ≡ read (into-tables (min types′ 1024) (min terms′ 2048)) opens′ (length bs) bs empty
-  no-other-rows types′ terms′ opens′ h =
+  -- the reading of a text that is not too long, by whether there is a type row
+  in-bounds : (types′ terms′ opens′ : ℕ) (b : Bool) → eqb types′ 0 ≡ b → outcome-within 16384 1024 2048 types′ terms′ opens′ bs ≡ cond b (refused-at NoTypeRow 0) (read (into-tables (min types′ 1024) (min terms′ 2048)) opens′ (length bs) bs empty)
+  in-bounds types′ terms′ opens′ b e =
       ap (λ b. cond b (refused-at TooLong 16384) (cond (eqb types′ 0) (refused-at NoTypeRow 0) (read (into-tables (min types′ 1024) (min terms′ 2048)) opens′ (length bs) bs empty))) (le-ltb 16384 (length bs) short)
-      ∙ ap (λ b. cond b (refused-at NoTypeRow 0) (read (into-tables (min types′ 1024) (min terms′ 2048)) opens′ (length bs) bs empty)) (ne-eqb types′ 0 (λ e. omega arith))
+      ∙ ap (λ b. cond b (refused-at NoTypeRow 0) (read (into-tables (min types′ 1024) (min terms′ 2048)) opens′ (length bs) bs empty)) e
 
   -- rows are handed over, and a text is refused as it is read
   module _ (some : 0 < types) (f : Fault) (p : ℕ) (h : read (into-tables (min types 1024) (min terms 2048)) opens (length bs) bs empty ≡ refused-at f p) where
@@ -289,9 +290,9 @@ module _ (types terms opens : ℕ) (bs : List ℕ) (short : length bs ≤ 16384)
 
     standing : (g : Fault) → Stood types terms opens bs pre behind (halted .tokens) (halted .passed .before) (halted .clear) g → Stands 16384 1024 2048 types terms opens bs g p
     standing TooLong a = a
-    standing BadByte a = ap token drop-is ∙ a
-    standing BadNumber a = ap token drop-is ∙ a
-    standing Misplaced a = subst (λ l. Sound (token l)) (sym drop-is) a
+    standing BadByte a = ap (λ l. fault-of (token l)) drop-is ∙ a
+    standing BadNumber a = ap (λ l. fault-of (token l)) drop-is ∙ a
+    standing Misplaced a = ap (λ l. fault-of (token l)) drop-is ∙ a
     standing TooDeep a = subst Begins (sym take-end) a
     standing NoTypeRow a = λ q. subst Begins (sym take-end) a
     standing NoTermRow a = subst Begins (sym take-end) a
@@ -328,57 +329,62 @@ module _ (types terms opens : ℕ) (bs : List ℕ) (short : length bs ≤ 16384)
 
       helpless : As-few 16384 1024 2048 types terms opens bs f types′ terms′ opens′ → outcome-within 16384 1024 2048 types′ terms′ opens′ bs ≡ refused-at f p
       helpless few =
-          no-other-rows types′ terms′ opens′ (omega arith)
+          in-bounds types′ terms′ opens′ false (ne-eqb types′ 0 (λ e. omega arith))
           ∙ keeps (λ s. s) (λ x. x) (λ y. y) (Full (min types 1024) (min types′ 1024)) (Full (min terms 2048) (min terms′ 2048)) by-tables (into-tables (min types′ 1024) (min terms′ 2048)) opens opens′
           (widens (min types 1024) (min terms 2048) (min types′ 1024) (min terms′ 2048) more-types more-terms) ho (length bs) f p (as-few f few) (suc (length bs)) bs empty [] tt h
 
     refusal : Fault-at 16384 1024 2048 types terms opens bs f p
     refusal = record {
       within = let l = ap length is ∙ length-append pre behind in let q = long in omega arith;
+      apart = λ i l.
+          let e = ap (λ l. width (drop i l)) is in
+          let k = long in
+          let h = none-over (halted .passed .before) i (omega arith) in
+          omega arith;
       stands = standing f (stood types terms opens bs pre behind (halted .tokens) (halted .passed .before) (halted .clear) f (halted .at) (token behind) refl (halted .walked) (halted .halt));
       before = subst Begins (sym (ap (take p) is ∙ take-at pre behind p long)) (before types terms opens bs pre behind (halted .tokens) (halted .passed .before) (halted .clear) f (halted .at) (token behind) (halted .walked) (halted .halt));
       there = alike;
-      rows = helpless;
     }
 
+    read-rightly : Rightly 16384 1024 2048 types terms opens bs f p
+    read-rightly = record { long = λ l. absurd (omega arith); short = λ s. refusal; rows = helpless }
+
   -- no type row is handed over, not even for nat
-  rowless : types ≡ 0 → Fault-at 16384 1024 2048 types terms opens bs NoTypeRow 0
+  rowless : types ≡ 0 → Rightly 16384 1024 2048 types terms opens bs NoTypeRow 0
   rowless none = record {
-    within = omega arith;
-    stands = λ some. absurd (omega arith);
-    before = begins 0 [] [] (λ cs. start) (completes 0 [] tt);
-    there = λ cs q e r. let g = emitted 0 0 e .grows empty in omega arith;
-    rows = λ types′ terms′ opens′ ht hu ho few.
-        ap (λ b. cond b (refused-at TooLong 16384) (cond (eqb types′ 0) (refused-at NoTypeRow 0) (read (into-tables (min types′ 1024) (min terms′ 2048)) opens′ (length bs) bs empty))) (le-ltb 16384 (length bs) short)
-        ∙ ap (λ b. cond b (refused-at NoTypeRow 0) (read (into-tables (min types′ 1024) (min terms′ 2048)) opens′ (length bs) bs empty)) (eq-eqb types′ 0 (omega arith));
+    long = λ l. absurd (omega arith);
+    short = λ s. record {
+      within = omega arith;
+      apart = λ i l. absurd (omega arith);
+      stands = λ some. absurd (omega arith);
+      before = begins 0 [] [] (λ cs. start) (completes 0 [] tt);
+      there = λ cs q e r. let g = emitted 0 0 e .grows empty in omega arith;
+    };
+    rows = λ types′ terms′ opens′ ht hu ho few. in-bounds types′ terms′ opens′ true (eq-eqb types′ 0 (omega arith));
   }
 
-  rightly : (f : Fault) (p : ℕ) → Fault-at 16384 1024 2048 types terms opens bs f p → Rightly 16384 1024 2048 types terms opens bs f p
-  rightly TooLong p a = absurd (a .stands)
-  rightly BadByte p a = (short, a)
-  rightly BadNumber p a = (short, a)
-  rightly Misplaced p a = (short, a)
-  rightly TooDeep p a = (short, a)
-  rightly NoTypeRow p a = (short, a)
-  rightly NoTermRow p a = (short, a)
+too-long : (types terms opens : ℕ) (bs : List ℕ) → 16384 < length bs → Rightly 16384 1024 2048 types terms opens bs TooLong 16384
+too-long types terms opens bs h = record {
+  long = λ l. (refl, refl);
+  short = λ s. absurd (omega arith);
+  rows = λ types′ terms′ opens′ ht hu ho few. ap (λ b. cond b (refused-at TooLong 16384) (cond (eqb types′ 0) (refused-at NoTypeRow 0) (read (into-tables (min types′ 1024) (min terms′ 2048)) opens′ (length bs) bs empty))) (lt-ltb 16384 (length bs) h);
+}
 
 pub refuses-rightly : Refuses-rightly 16384 1024 2048
 refuses-rightly types terms opens bs f p h = by (ltb 16384 (length bs)) (eqb types 0) refl refl h
   where
+    moved : (k : Fault) (q : ℕ) → Rightly 16384 1024 2048 types terms opens bs k q → _≡_ {A = Outcome Tables ℕ} (refused-at k q) (refused-at f p) → Rightly 16384 1024 2048 types terms opens bs f p
+    moved k q r h =
+        let a : k ≡ f = cc in
+        let b : q ≡ p = cc in
+        subst (λ g. Rightly 16384 1024 2048 types terms opens bs g p) a (subst (Rightly 16384 1024 2048 types terms opens bs k) b r)
+
     by : (l n : Bool) → ltb 16384 (length bs) ≡ l → eqb types 0 ≡ n
         → cond l (refused-at TooLong 16384) (cond n (refused-at NoTypeRow 0) (read (into-tables (min types 1024) (min terms 2048)) opens (length bs) bs empty)) ≡ refused-at f p
         → Rightly 16384 1024 2048 types terms opens bs f p
-    by true n e g h =
-        let a : TooLong ≡ f = cc in
-        let b : p ≡ 16384 = cc in
-        subst (λ k. Rightly 16384 1024 2048 types terms opens bs k p) a (ltb-true 16384 (length bs) e, b)
-    by false true e g h =
-        let a : NoTypeRow ≡ f = cc in
-        let b : 0 ≡ p = cc in
-        let short = ltb-false 16384 (length bs) e in
-        rightly types terms opens bs short f p (subst (λ k. Fault-at 16384 1024 2048 types terms opens bs k p) a (subst (Fault-at 16384 1024 2048 types terms opens bs NoTypeRow) b (rowless types terms opens bs short (eqb-true types 0 g))))
+    by true n e g h = moved TooLong 16384 (too-long types terms opens bs (ltb-true 16384 (length bs) e)) h
+    by false true e g h = moved NoTypeRow 0 (rowless types terms opens bs (ltb-false 16384 (length bs) e) (eqb-true types 0 g)) h
     by false false e g h =
         let ne = eqb-false types 0 g in
         let some : 0 < types = grind arith in
-        let short = ltb-false 16384 (length bs) e in
-        rightly types terms opens bs short f p (refusal types terms opens bs short some f p h)
+        read-rightly types terms opens bs (ltb-false 16384 (length bs) e) some f p h

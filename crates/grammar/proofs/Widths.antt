@@ -7,6 +7,7 @@ use native.Mathlib.Omega.{arith}
 use lib.ListN.{length, take, drop, length-append, length-drop}
 use Rattle.std.specs.declared.option.Option.{Option}
 use Rattle.std.specs.declared.option.Option.the-variants.{Some, None}
+use Rattle.std.specs.Written.{decimal}
 use Rattle.grammar.specs.declared.bytes.Class.{Class}
 use Rattle.grammar.specs.declared.bytes.Class.the-variants.{Space, Open, Close, Hash, Digit, Letter, Other}
 use Rattle.grammar.specs.declared.fault.Fault.{Fault}
@@ -16,7 +17,7 @@ use Rattle.grammar.specs.Tokens.{Tok, Step, over, took, refused, token, begun,
 use Rattle.grammar.specs.Runs.{alike-same, run-le}
 use Rattle.grammar.specs.Renders.{spelling, Fits}
 use Rattle.grammar.specs.Refusals.{together, width}
-use Rattle.grammar.proofs.Lexed.{Right, right}
+use Rattle.grammar.proofs.Lexed.{all-of, run-append, decimal-digits, Right, right}
 
 -- ---- one text
 
@@ -108,6 +109,24 @@ width-is (b ∷ bs) cs t e =
     let r = subst (Right (b ∷ bs)) e (right (b ∷ bs)) in
     drop-width (width (b ∷ bs)) (b ∷ bs) (spelling t) cs (together-le (class b) b bs) (r .0) (begun-rest (class b) b bs cs t e)
 
+-- nothing that begins in a token goes on past it
+all-within : (k : Class) → ((l : List ℕ) → together k l ≡ run k l) → (w cs : List ℕ) → run k w ≡ length w → run k cs ≡ 0 → (i : ℕ) → i < length w → i + width (drop i (w ++ cs)) ≤ length w
+all-within k r [] cs a z i l = absurd (omega arith)
+all-within k r (b ∷ w) cs a z zero l =
+    let h = ap (λ c. together c (b ∷ (w ++ cs))) (all-of k b w a .0) ∙ r (b ∷ (w ++ cs)) ∙ run-append k (b ∷ w) cs a z in
+    omega arith
+all-within k r (b ∷ w) cs a z (suc i) l = let h = all-within k r w cs (all-of k b w a .1) z i (omega arith) in omega arith
+
+pub token-within : (t : Tok) (cs : List ℕ) → Fits t cs → (i : ℕ) → i < length (spelling t) → i + width (drop i (spelling t ++ cs)) ≤ length (spelling t)
+token-within lpar cs f zero l = omega arith
+token-within lpar cs f (suc i) l = absurd (omega arith)
+token-within rpar cs f zero l = omega arith
+token-within rpar cs f (suc i) l = absurd (omega arith)
+token-within (word w) cs f i l = all-within Letter (λ l. refl) w cs (f .1) (f .2) i l
+token-within (number n) cs f i l = all-within Digit (λ l. refl) (decimal n) cs (decimal-digits n (f .0)) (f .1) i l
+token-within (hash n) cs f zero l = let r = run-append Digit (decimal n) cs (decimal-digits n (f .0)) (f .1) in omega arith
+token-within (hash n) cs f (suc i) l = let h = all-within Digit (λ l. refl) (decimal n) cs (decimal-digits n (f .0)) (f .1) i (omega arith) in omega arith
+
 -- ---- two texts
 
 abbrev pub Same : Step → Step → Type 0
@@ -182,3 +201,8 @@ pub take-past : (pre rest : List ℕ) (n k : ℕ) → k ≡ length pre + n → t
 take-past [] rest n k e = let is : k ≡ n = omega arith in ap (λ k. take k rest) is
 take-past (b ∷ pre) rest n zero e = absurd (omega arith)
 take-past (b ∷ pre) rest n (suc k) e = ap (λ l. b ∷ l) (take-past pre rest n k (omega arith))
+
+pub drop-past : (w cs : List ℕ) (i : ℕ) → length w ≤ i → drop i (w ++ cs) ≡ drop (i - length w) cs
+drop-past [] cs i h = let e : i ≡ i - 0 = omega arith in ap (λ n. drop n cs) e
+drop-past (b ∷ w) cs zero h = absurd (omega arith)
+drop-past (b ∷ w) cs (suc i) h = let e : i - length w ≡ suc i - suc (length w) = omega arith in drop-past w cs i (omega arith) ∙ ap (λ n. drop n cs) e

@@ -43,11 +43,11 @@ Alike p bs cs = (take (end-at bs p) cs ≡ take (end-at bs p) bs) × (end-at cs 
 abbrev pub Begins : List ℕ → Type 0
 Begins bs = (cs : List ℕ) × (e : Term) × Renders (bs ++ 32 ∷ cs) e
 
--- a token is at the front of a text, or its end: no lexical fault
-abbrev pub Sound : Step → Type 0
-Sound over = Unit {0}
-Sound (took t cs) = Unit {0}
-Sound (refused k) = ⊥
+-- the fault of what is at the front of a text where the text of no term goes on so
+abbrev pub fault-of : Step → Fault
+fault-of over = Misplaced
+fault-of (took t cs) = Misplaced
+fault-of (refused k) = k
 
 module _ (most-bytes most-types most-terms types terms opens : ℕ) (bs : List ℕ) where
   -- a term wants more rows than there are, of the kind that a fault says is lacking; no term has a fault of the text
@@ -70,39 +70,56 @@ module _ (most-bytes most-types most-terms types terms opens : ℕ) (bs : List �
   As-few NoTypeRow types′ terms′ opens′ = types′ ≡ types
   As-few NoTermRow types′ terms′ opens′ = terms′ ≡ terms
 
-  -- what stands at the place of a fault: no token; a token, or the end of the text; or a token that may stand there
+  -- what stands at the place of a fault: that which has the fault, or else a token that may stand there
   abbrev pub Stands : Fault → ℕ → Type 0
   Stands TooLong p = ⊥
-  Stands BadByte p = token (drop p bs) ≡ refused BadByte
-  Stands BadNumber p = token (drop p bs) ≡ refused BadNumber
-  Stands Misplaced p = Sound (token (drop p bs))
+  Stands BadByte p = fault-of (token (drop p bs)) ≡ BadByte
+  Stands BadNumber p = fault-of (token (drop p bs)) ≡ BadNumber
+  Stands Misplaced p = fault-of (token (drop p bs)) ≡ Misplaced
   Stands TooDeep p = Begins (take (end-at bs p) bs)
   Stands NoTypeRow p = 0 < types → Begins (take (end-at bs p) bs)
   Stands NoTermRow p = Begins (take (end-at bs p) bs)
 
+  -- a text has a fault at p
   pub record Fault-at (f : Fault) (p : ℕ) : Type 0 where
     -- the place is in the text, or its end
     pub within : p ≤ length bs
-    -- the fault says what stands there
+    -- nothing that begins before it goes on past it
+    pub apart : (i : ℕ) → i < p → end-at bs i ≤ p
+    -- the fault is that of what stands there
     pub stands : Stands f p
     -- the text before it begins the text of a term
     pub before : Begins (take p bs)
-    -- with what stands there it begins none, or only texts of terms for which rows are lacking
+    -- with what stands there it is none, or only that of terms for which rows are lacking
     pub there : (cs : List ℕ) → Alike p bs cs → (e : Term) → Renders cs e → Lacking f e
-    -- and other rows do not help
+
+  -- a text is refused rightly by f at p
+  pub record Rightly (f : Fault) (p : ℕ) : Type 0 where
+    -- a text that is too long is refused as that, at the first byte too many
+    pub long : most-bytes < length bs → (f ≡ TooLong) × (p ≡ most-bytes)
+    -- any other has that fault at that place
+    pub short : length bs ≤ most-bytes → Fault-at f p
+    -- and more rows do not help, unless they are of the kind that is lacking
     pub rows : (types′ terms′ opens′ : ℕ) → types ≤ types′ → terms ≤ terms′ → opens ≤ opens′ → As-few f types′ terms′ opens′ → outcome-within most-bytes most-types most-terms types′ terms′ opens′ bs ≡ refused-at f p
 
-  -- a text is too long, or it is not and has a fault at p
-  abbrev pub Rightly : Fault → ℕ → Type 0
-  Rightly TooLong p = (most-bytes < length bs) × (p ≡ most-bytes)
-  Rightly BadByte p = (length bs ≤ most-bytes) × Fault-at BadByte p
-  Rightly BadNumber p = (length bs ≤ most-bytes) × Fault-at BadNumber p
-  Rightly Misplaced p = (length bs ≤ most-bytes) × Fault-at Misplaced p
-  Rightly TooDeep p = (length bs ≤ most-bytes) × Fault-at TooDeep p
-  Rightly NoTypeRow p = (length bs ≤ most-bytes) × Fault-at NoTypeRow p
-  Rightly NoTermRow p = (length bs ≤ most-bytes) × Fault-at NoTermRow p
-
+-- a text that is refused is refused rightly
 abbrev pub Refuses-rightly : ℕ → ℕ → ℕ → Type 0
 Refuses-rightly most-bytes most-types most-terms =
     (types terms opens : ℕ) (bs : List ℕ) (f : Fault) (p : ℕ)
     → outcome-within most-bytes most-types most-terms types terms opens bs ≡ refused-at f p → Rightly most-bytes most-types most-terms types terms opens bs f p
+
+-- the faults of a text itself
+abbrev pub Of-text : Fault → Type 0
+Of-text TooLong = ⊥
+Of-text BadByte = Unit {0}
+Of-text BadNumber = Unit {0}
+Of-text Misplaced = Unit {0}
+Of-text TooDeep = ⊥
+Of-text NoTypeRow = ⊥
+Of-text NoTermRow = ⊥
+
+-- a text has one such fault at most, at one place
+abbrev pub Faults-once : ℕ → ℕ → ℕ → Type 0
+Faults-once most-bytes most-types most-terms =
+    (types terms opens : ℕ) (bs : List ℕ) (f g : Fault) (p q : ℕ) → Of-text f → Of-text g
+    → Fault-at most-bytes most-types most-terms types terms opens bs f p → Fault-at most-bytes most-types most-terms types terms opens bs g q → (f ≡ g) × (p ≡ q)

@@ -1,6 +1,6 @@
 // What the text of a rule is, and what reading one gives, in specs/. Each function here has a theorem for its contract.
 ghost use Rattle.grammar.specs.Theorems.{Reads-exactly, Reads-once};
-ghost use Rattle.grammar.specs.Refusals.{Refuses-rightly};
+ghost use Rattle.grammar.specs.Refusals.{Refuses-rightly, Faults-once};
 
 mod bytes;
 mod fault;
@@ -31,4 +31,9 @@ pub fn reads_once()
 // some term, and with what stands there it does not, or only that of a term for which rows of the kind named are lacking.
 pub fn refuses_rightly()
     ensures { λ _. ⌜ Refuses-rightly 16384 1024 2048 ⌝ }
+{}
+
+// A text has one fault of its own at most, at one place.
+pub fn faults_once()
+    ensures { λ _. ⌜ Faults-once 16384 1024 2048 ⌝ }
 {}
