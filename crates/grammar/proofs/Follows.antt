@@ -56,17 +56,28 @@ getD-map g [] i d d′ e = sym e
 getD-map g (x ∷ xs) zero d d′ e = refl
 getD-map g (x ∷ xs) (suc i) d d′ e = getD-map g xs i d d′ e
 
--- what is known of the second maker where the first makes nothing: No-type and No-term
-module _ {S X Y S′ X′ Y′ : Type 0} (es : S → S′) (ex : X → X′) (ey : Y → Y′) (No-type : Option (S′ × X′) → Type 0) (No-term : Option (S′ × Y′) → Type 0) where
+-- what one maker makes, as another makes it; a fact of all that the first has made; and what is known of the second
+-- where the first makes nothing
+pub record Image (S X Y S′ X′ Y′ : Type 0) : Type 1 where
+  pub state : S → S′
+  pub type : X → X′
+  pub term : Y → Y′
+  pub Kept-fact : S → Type 0
+  pub No-type : Option (S′ × X′) → Type 0
+  pub No-term : Option (S′ × Y′) → Type 0
+
+module _ {S X Y S′ X′ Y′ : Type 0} (image : Image S X Y S′ X′ Y′) where
+  open Image image using (state as es, type as ex, term as ey, Kept-fact as Inv, No-type, No-term)
+
   abbrev pub Like : {Z Z′ : Type 0} → (Z → Z′) → (Option (S′ × Z′) → Type 0) → Option (S × Z) → Option (S′ × Z′) → Type 0
   Like ez No None o = No o
-  Like ez No (Some p) o = o ≡ Some (es (p .0), ez (p .1))
+  Like ez No (Some p) o = (o ≡ Some (es (p .0), ez (p .1))) × Inv (p .0)
 
   pub record Follows (m : Maker S X Y) (m′ : Maker S′ X′ Y′) : Type 0 where
     pub natural : ex (m .natural) ≡ m′ .natural
-    pub shape : (k : Shape) (l r : X) (s : S) → Like ex No-type (m .shape k l r s) (m′ .shape k (ex l) (ex r) (es s))
-    pub leaf : (k n : ℕ) (s : S) → Like ey No-term (m .leaf k n s) (m′ .leaf k n (es s))
-    pub form : (f : Form) (xs : List X) (ys : List Y) (s : S) → Like ey No-term (m .form f xs ys s) (m′ .form f (map ex xs) (map ey ys) (es s))
+    pub shape : (k : Shape) (l r : X) (s : S) → Inv s → Like ex No-type (m .shape k l r s) (m′ .shape k (ex l) (ex r) (es s))
+    pub leaf : (k n : ℕ) (s : S) → Inv s → Like ey No-term (m .leaf k n s) (m′ .leaf k n (es s))
+    pub form : (f : Form) (xs : List X) (ys : List Y) (s : S) → Inv s → Like ey No-term (m .form f xs ys s) (m′ .form f (map ex xs) (map ey ys) (es s))
 
   abbrev pub eb : Bracket X Y → Bracket X′ Y′
   eb term-word = term-word
@@ -97,19 +108,23 @@ module _ {S X Y S′ X′ Y′ : Type 0} (es : S → S′) (ex : X → X′) (ey
   good-other (b ∷ fs) g = (wanted-other fs ∙ g .0 ∙ sym (role-other b), good-other fs (g .1))
 
   module _ (m : Maker S X Y) (m′ : Maker S′ X′ Y′) (room room′ : ℕ) where
+    -- brackets that are open, with what has been made
+    abbrev pub Fine : S → List (Bracket X Y) → Type 0
+    Fine s fs = Good fs × Inv s × (length fs ≤ room)
+
     -- how a turn of the second maker follows one of the first, with these brackets open before
     abbrev pub After : List (Bracket X Y) → Turn S X Y → Turn S′ X′ Y′ → Type 0
-    After now (go s fs) d = (d ≡ go (es s) (other fs)) × Good fs
+    After now (go s fs) d = (d ≡ go (es s) (other fs)) × Fine s fs
     After now (done s y) d = d ≡ done (es s) (ey y)
     After now (stop TooLong) d = ⊥
     After now (stop BadByte) d = ⊥
     After now (stop BadNumber) d = ⊥
     After now (stop Misplaced) d = d ≡ stop Misplaced
-    After now (stop TooDeep) d = (s : S′) × (b : Bracket X Y) × (d ≡ opened room′ (eb b) s (other now)) × (room ≤ length now) × Good (b ∷ now)
+    After now (stop TooDeep) d = (s : S′) × (b : Bracket X Y) × (d ≡ opened room′ (eb b) s (other now)) × (room ≡ length now) × Good (b ∷ now)
     After now (stop NoTypeRow) d = (o : Option (S′ × X′)) × (fs : List (Bracket X Y)) × (d ≡ made-type o (other fs)) × No-type o × (wanted fs ≡ a-type) × Good fs
     After now (stop NoTermRow) d = (o : Option (S′ × Y′)) × (fs : List (Bracket X Y)) × (d ≡ made o (other fs)) × No-term o × (wanted fs ≡ a-term) × Good fs
 
-    give-after : (now : List (Bracket X Y)) (s : S) (y : Y) (fs : List (Bracket X Y)) → Good fs → After now (give s y fs) (give (es s) (ey y) (other fs))
+    give-after : (now : List (Bracket X Y)) (s : S) (y : Y) (fs : List (Bracket X Y)) → Fine s fs → After now (give s y fs) (give (es s) (ey y) (other fs))
     give-after now s y [] g = refl
     give-after now s y (term-word ∷ fs) g = refl
     give-after now s y (type-word ∷ fs) g = refl
@@ -125,7 +140,7 @@ module _ {S X Y S′ X′ Y′ : Type 0} (es : S → S′) (ex : X → X′) (ey
         )
         by false e = ap (λ b. cond b (go (es s) (open-term f (map ex xs) (map ey ys ++ ey y ∷ []) ∷ other fs)) (stop Misplaced)) e
 
-    give-type-after : (now : List (Bracket X Y)) (s : S) (x : X) (fs : List (Bracket X Y)) → Good fs → After now (give-type s x fs) (give-type (es s) (ex x) (other fs))
+    give-type-after : (now : List (Bracket X Y)) (s : S) (x : X) (fs : List (Bracket X Y)) → Fine s fs → After now (give-type s x fs) (give-type (es s) (ex x) (other fs))
     give-type-after now s x [] g = refl
     give-type-after now s x (term-word ∷ fs) g = refl
     give-type-after now s x (type-word ∷ fs) g = refl
@@ -150,26 +165,29 @@ module _ {S X Y S′ X′ Y′ : Type 0} (es : S → S′) (ex : X → X′) (ey
         )
         by false e = ap (λ b. cond b (go (es s) (open-term f (map ex xs ++ ex x ∷ []) (map ey ys) ∷ other fs)) (stop Misplaced)) e
 
-    made-after : (now : List (Bracket X Y)) (o : Option (S × Y)) (o′ : Option (S′ × Y′)) (fs : List (Bracket X Y)) → Like ey No-term o o′ → wanted fs ≡ a-term → Good fs → After now (made o fs) (made o′ (other fs))
-    made-after now None o′ fs l w g = (o′, fs, refl, l, w, g)
-    made-after now (Some p) o′ fs l w g = subst (λ o. After now (give (p .0) (p .1) fs) (made o (other fs))) (sym l) (give-after now (p .0) (p .1) fs g)
+    made-after : (now : List (Bracket X Y)) (s : S) (o : Option (S × Y)) (o′ : Option (S′ × Y′)) (fs : List (Bracket X Y)) → Like ey No-term o o′ → wanted fs ≡ a-term → Fine s fs → After now (made o fs) (made o′ (other fs))
+    made-after now s None o′ fs l w g = (o′, fs, refl, l, w, g .0)
+    made-after now s (Some p) o′ fs l w g = subst (λ o. After now (give (p .0) (p .1) fs) (made o (other fs))) (sym (l .0)) (give-after now (p .0) (p .1) fs (g .0, l .1, g .2))
 
-    made-type-after : (now : List (Bracket X Y)) (o : Option (S × X)) (o′ : Option (S′ × X′)) (fs : List (Bracket X Y)) → Like ex No-type o o′ → wanted fs ≡ a-type → Good fs → After now (made-type o fs) (made-type o′ (other fs))
-    made-type-after now None o′ fs l w g = (o′, fs, refl, l, w, g)
-    made-type-after now (Some p) o′ fs l w g = subst (λ o. After now (give-type (p .0) (p .1) fs) (made-type o (other fs))) (sym l) (give-type-after now (p .0) (p .1) fs g)
+    made-type-after : (now : List (Bracket X Y)) (s : S) (o : Option (S × X)) (o′ : Option (S′ × X′)) (fs : List (Bracket X Y)) → Like ex No-type o o′ → wanted fs ≡ a-type → Fine s fs → After now (made-type o fs) (made-type o′ (other fs))
+    made-type-after now s None o′ fs l w g = (o′, fs, refl, l, w, g .0)
+    made-type-after now s (Some p) o′ fs l w g = subst (λ o. After now (give-type (p .0) (p .1) fs) (made-type o (other fs))) (sym (l .0)) (give-type-after now (p .0) (p .1) fs (g .0, l .1, g .2))
 
     module _ (fol : Follows m m′) (more : room ≤ room′) where
-      opened-after : (b : Bracket X Y) (s : S) (fs : List (Bracket X Y)) → wanted fs ≡ role b → Good fs → After fs (opened room b s fs) (opened room′ (eb b) (es s) (other fs))
+      opened-after : (b : Bracket X Y) (s : S) (fs : List (Bracket X Y)) → wanted fs ≡ role b → Fine s fs → After fs (opened room b s fs) (opened room′ (eb b) (es s) (other fs))
       opened-after b s fs w g = by (ltb (length fs) room) refl
         where
           by : (t : Bool) → ltb (length fs) room ≡ t → After fs (cond t (go s (b ∷ fs)) (stop TooDeep)) (opened room′ (eb b) (es s) (other fs))
           by true e =
               let n = length-map fs eb in
               let l = ltb-true (length fs) room e in
-              (ap (λ t. cond t (go (es s) (eb b ∷ other fs)) (stop TooDeep)) (lt-ltb (length (other fs)) room′ (omega arith)), (w, g))
-          by false e = (es s, b, refl, ltb-false (length fs) room e, (w, g))
+              (ap (λ t. cond t (go (es s) (eb b ∷ other fs)) (stop TooDeep)) (lt-ltb (length (other fs)) room′ (omega arith)), ((w, g .0), g .1, omega arith))
+          by false e =
+              let l = ltb-false (length fs) room e in
+              let k = g .2 in
+              (es s, b, refl, omega arith, (w, g .0))
 
-      form-worded : (o : Option Form) (s : S) (fs : List (Bracket X Y)) → wanted fs ≡ a-term-word → Good fs → After fs (replaced (as-form o) s fs) (replaced (as-form o) (es s) (other fs))
+      form-worded : (o : Option Form) (s : S) (fs : List (Bracket X Y)) → wanted fs ≡ a-term-word → Fine s fs → After fs (replaced (as-form o) s fs) (replaced (as-form o) (es s) (other fs))
       form-worded None s fs w g = refl
       form-worded (Some f) s [] w g = refl
       form-worded (Some f) s (term-word ∷ fs) w g = (refl, g)
@@ -181,7 +199,7 @@ module _ {S X Y S′ X′ Y′ : Type 0} (es : S → S′) (ex : X → X′) (ey
           type-wants false h = let z : _≡_ {A = ℕ} 0 1 = cc in omega arith
       form-worded (Some f) s (open-term a xs ys ∷ fs) w g = (refl, g)
 
-      shape-worded : (o : Option Shape) (s : S) (fs : List (Bracket X Y)) → wanted fs ≡ a-type-word → Good fs → After fs (replaced (as-shape o) s fs) (replaced (as-shape o) (es s) (other fs))
+      shape-worded : (o : Option Shape) (s : S) (fs : List (Bracket X Y)) → wanted fs ≡ a-type-word → Fine s fs → After fs (replaced (as-shape o) s fs) (replaced (as-shape o) (es s) (other fs))
       shape-worded None s fs w g = refl
       shape-worded (Some k) s [] w g = refl
       shape-worded (Some k) s (term-word ∷ fs) w g = let z : _≡_ {A = ℕ} 0 1 = cc in absurd (omega arith)
@@ -194,7 +212,7 @@ module _ {S X Y S′ X′ Y′ : Type 0} (es : S → S′) (ex : X → X′) (ey
           term-wants false true h = let z : _≡_ {A = ℕ} 0 1 = cc in omega arith
           term-wants false false h = let z : _≡_ {A = ℕ} 0 1 = cc in omega arith
 
-      closed-after : (now : List (Bracket X Y)) (s : S) (fs : List (Bracket X Y)) → Good fs → After now (closed m room s fs) (closed m′ room′ (es s) (other fs))
+      closed-after : (now : List (Bracket X Y)) (s : S) (fs : List (Bracket X Y)) → Fine s fs → After now (closed m room s fs) (closed m′ room′ (es s) (other fs))
       closed-after now s [] g = refl
       closed-after now s (term-word ∷ fs) g = refl
       closed-after now s (type-word ∷ fs) g = refl
@@ -202,17 +220,18 @@ module _ {S X Y S′ X′ Y′ : Type 0} (es : S → S′) (ex : X → X′) (ey
           let l : Like ex No-type (m .shape k (getD xs 0 (m .natural)) (getD xs 1 (m .natural)) s) (m′ .shape k (getD (map ex xs) 0 (m′ .natural)) (getD (map ex xs) 1 (m′ .natural)) (es s)) =
           subst (λ (q : X′ × X′). Like ex No-type (m .shape k (getD xs 0 (m .natural)) (getD xs 1 (m .natural)) s) (m′ .shape k (q .0) (q .1) (es s)))
           (λ i. (sym (getD-map ex xs 0 (m .natural) (m′ .natural) (fol .natural)) i, sym (getD-map ex xs 1 (m .natural) (m′ .natural) (fol .natural)) i))
-          (fol .shape k (getD xs 0 (m .natural)) (getD xs 1 (m .natural)) s)
+          (fol .shape k (getD xs 0 (m .natural)) (getD xs 1 (m .natural)) s (g .1))
           in
-          made-type-after now (m .shape k (getD xs 0 (m .natural)) (getD xs 1 (m .natural)) s) (m′ .shape k (getD (map ex xs) 0 (m′ .natural)) (getD (map ex xs) 1 (m′ .natural)) (es s)) fs l (g .0) (g .1)
-      closed-after now s (open-term f xs ys ∷ fs) g = made-after now (m .form f xs ys s) (m′ .form f (map ex xs) (map ey ys) (es s)) fs (fol .form f xs ys s) (g .0) (g .1)
+          let deep = g .2 in
+          made-type-after now s (m .shape k (getD xs 0 (m .natural)) (getD xs 1 (m .natural)) s) (m′ .shape k (getD (map ex xs) 0 (m′ .natural)) (getD (map ex xs) 1 (m′ .natural)) (es s)) fs l (g .0 .0) (g .0 .1, g .1, omega arith)
+      closed-after now s (open-term f xs ys ∷ fs) g = let k = g .2 in made-after now s (m .form f xs ys s) (m′ .form f (map ex xs) (map ey ys) (es s)) fs (fol .form f xs ys s (g .1)) (g .0 .0) (g .0 .1, g .1, omega arith)
 
-      meet-after : (w : Want) (t : Tok) (s : S) (fs : List (Bracket X Y)) → wanted fs ≡ w → Good fs → After fs (meet m room w t s fs) (meet m′ room′ w t (es s) (other fs))
+      meet-after : (w : Want) (t : Tok) (s : S) (fs : List (Bracket X Y)) → wanted fs ≡ w → Fine s fs → After fs (meet m room w t s fs) (meet m′ room′ w t (es s) (other fs))
       meet-after a-term lpar s fs w g = opened-after term-word s fs w g
       meet-after a-term rpar s fs w g = refl
       meet-after a-term (word v) s fs w g = refl
-      meet-after a-term (number n) s fs w g = made-after fs (m .leaf 0 n s) (m′ .leaf 0 n (es s)) fs (fol .leaf 0 n s) w g
-      meet-after a-term (name n) s fs w g = made-after fs (m .leaf 1 n s) (m′ .leaf 1 n (es s)) fs (fol .leaf 1 n s) w g
+      meet-after a-term (number n) s fs w g = made-after fs s (m .leaf 0 n s) (m′ .leaf 0 n (es s)) fs (fol .leaf 0 n s (g .1)) w g
+      meet-after a-term (name n) s fs w g = made-after fs s (m .leaf 1 n s) (m′ .leaf 1 n (es s)) fs (fol .leaf 1 n s (g .1)) w g
       meet-after a-type lpar s fs w g = opened-after type-word s fs w g
       meet-after a-type rpar s fs w g = refl
       meet-after a-type (word v) s fs w g = by (same v (codes "nat"))
@@ -238,14 +257,14 @@ module _ {S X Y S′ X′ Y′ : Type 0} (es : S → S′) (ex : X → X′) (ey
       meet-after a-close (number n) s fs w g = refl
       meet-after a-close (name n) s fs w g = refl
 
-      pub turn-after : (t : Tok) (s : S) (fs : List (Bracket X Y)) → Good fs → After fs (turn m room t s fs) (turn m′ room′ t (es s) (other fs))
+      pub turn-after : (t : Tok) (s : S) (fs : List (Bracket X Y)) → Fine s fs → After fs (turn m room t s fs) (turn m′ room′ t (es s) (other fs))
       turn-after t s fs g =
           subst (λ w. After fs (turn m room t s fs) (meet m′ room′ w t (es s) (other fs))) (sym (wanted-other fs)) (meet-after (wanted fs) t s fs refl g)
 
       -- ---- a list of tokens
 
       abbrev pub Kept : Turn S X Y → Turn S′ X′ Y′ → Type 0
-      Kept (go s fs) d = (d ≡ go (es s) (other fs)) × Good fs
+      Kept (go s fs) d = (d ≡ go (es s) (other fs)) × Fine s fs
       Kept (done s y) d = d ≡ done (es s) (ey y)
       Kept (stop k) d = Unit {0}
 
@@ -288,7 +307,7 @@ module _ {S X Y S′ X′ Y′ : Type 0} (es : S → S′) (ex : X → X′) (ey
 
       module _ (long : ℕ) (f : Fault) (p : ℕ) (k : Still f) where
         abbrev Keeps : ℕ → Type 0
-        Keeps n = (bs : List ℕ) (s : S) (fs : List (Bracket X Y)) → Good fs → reading m room long n bs s fs ≡ refused-at f p → reading m′ room′ long n bs (es s) (other fs) ≡ refused-at f p
+        Keeps n = (bs : List ℕ) (s : S) (fs : List (Bracket X Y)) → Fine s fs → reading m room long n bs s fs ≡ refused-at f p → reading m′ room′ long n bs (es s) (other fs) ≡ refused-at f p
 
         module _ (n : ℕ) (ih : Keeps n) (bs cs : List ℕ) where
           at-end : (s : S) (y : Y) (st : Step) → ended (place m room long cs) s y st ≡ refused-at f p → ended (place m room long cs) (es s) (ey y) st ≡ refused-at f p

@@ -12,6 +12,7 @@ pub mod Widths
 pub mod Halts
 pub mod Completes
 pub mod Walks
+pub mod Past
 pub mod Refusals
 pub mod Once
 pub mod Theorems

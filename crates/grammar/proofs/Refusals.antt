@@ -20,12 +20,12 @@ use Rattle.grammar.specs.declared.fault.Fault.{Fault}
 use Rattle.grammar.specs.declared.fault.Fault.the-variants.{TooLong, BadByte, BadNumber, Misplaced, TooDeep, NoTypeRow, NoTermRow}
 use Rattle.grammar.specs.Bytes.{run}
 use Rattle.grammar.specs.Tokens.{Tok, Step, over, took, refused, token, trimmed}
-use Rattle.grammar.specs.Reader.{Maker, Bracket, a-term, a-type, wanted, Turn, go, done, stop, opened, made, made-type, turn, Outcome, refused-at, read}
+use Rattle.grammar.specs.Reader.{Maker, Bracket, a-term, a-type, wanted, Turn, go, done, stop, opened, made, made-type, turn, Outcome, refused-at, reading, read}
 use Rattle.grammar.specs.TableMaker.{into-tables}
 use Rattle.grammar.specs.TermTokens.{toks, depth}
 use Rattle.grammar.specs.Renders.{spelling, Fits, Written, space, Renders}
 use Rattle.grammar.specs.Theorems.{outcome-within}
-use Rattle.grammar.specs.Refusals.{width, end-at, Alike, Begins, fault-of, Lacking, As-few, Stands, Fault-at, Rightly, Refuses-rightly}
+use Rattle.grammar.specs.Refusals.{width, end-at, Alike, Begins, fault-of, Lacking, As-few, More, Stands, Fault-at, Rightly, Refuses-rightly}
 use Rattle.grammar.proofs.Grow.{grow, drive}
 use Rattle.grammar.proofs.Driven.{driven}
 use Rattle.grammar.proofs.Found.{finds}
@@ -36,7 +36,8 @@ use Rattle.grammar.proofs.Follows.{Good, role, walk, eb, other, wanted-other, 
 use Rattle.grammar.proofs.Widths.{Lexical, lexical, width-is, Same, Fronts, fronts, Parted, parted, take-past}
 use Rattle.grammar.proofs.Halts.{Before, start, Instead, run-instead, fits-instead, before-instead, joins, before-more, none-over, parts, Passed, Halt, Halted, halts}
 use Rattle.grammar.proofs.Completes.{any, Open, Told, Plain, spaced, spaced-written, Completes, completed, given, given-type, completes}
-use Rattle.grammar.proofs.Walks.{walk-stop, walk-append, no-go, no-stop, drive-walk, walk-drive, Full, widens, Can, frees}
+use Rattle.grammar.proofs.Past.{Live, give-live, give-type-live, past}
+use Rattle.grammar.proofs.Walks.{walk-stop, walk-append, no-go, no-stop, drive-walk, walk-drive, Full, wider, widens, Can, free, frees}
 
 -- ---- what begins the text of a term
 
@@ -67,7 +68,7 @@ not-left bs vs k h (end e) = let z : _≡_ {A = ℕ} 0 1 = cc in omega arith
 not-left bs vs k h (next e s) = let z : _≡_ {A = ℕ} 0 1 = cc in omega arith
 
 -- a reading of tables that halts at a place
-module _ (types terms opens : ℕ) (bs pre rest : List ℕ) (ts : List Tok) (b : Before rest pre ts) (clear : run Space rest ≡ 0) where
+module _ (types terms opens : ℕ) (bs pre rest : List ℕ) (ts : List Tok) (b : Before rest pre ts) (clear : run Space rest ≡ 0) (some : 0 < types) where
   abbrev t : ℕ
   t = min types 1024
 
@@ -87,16 +88,16 @@ module _ (types terms opens : ℕ) (bs pre rest : List ℕ) (ts : List Tok) (b :
       m′ = into-tables t′ u′
 
       abbrev Still′ : Type 0
-      Still′ = Still (λ s. s) (λ x. x) (λ y. y) (Full t t′) (Full u u′) m m′ opens opens′ (widens t u t′ u′ ht hu) ho f
+      Still′ = Still (wider t u t′ u′) m m′ opens opens′ (widens t u t′ u′ ht hu) ho f
 
       abbrev Kept′ : Turn Tables ℕ ℕ → Turn Tables ℕ ℕ → Type 0
-      Kept′ = Kept (λ s. s) (λ x. x) (λ y. y) (Full t t′) (Full u u′) m m′ opens opens′ (widens t u t′ u′ ht hu) ho
+      Kept′ = Kept (wider t u t′ u′) m m′ opens opens′ (widens t u t′ u′ ht hu) ho
 
       abbrev After′ : List (Bracket ℕ ℕ) → Turn Tables ℕ ℕ → Turn Tables ℕ ℕ → Type 0
-      After′ = After (λ s. s) (λ x. x) (λ y. y) (Full t t′) (Full u u′) m m′ opens opens′
+      After′ = After (wider t u t′ u′) m m′ opens opens′
 
       abbrev other′ : List (Bracket ℕ ℕ) → List (Bracket ℕ ℕ)
-      other′ = other {S = Tables} (λ s. s) (λ x. x) (λ y. y) (Full t t′) (Full u u′)
+      other′ = other (wider t u t′ u′)
 
       module _ (k : Still′) (behind : List ℕ) (fr : Fronts rest behind) (x : Tables) (y : ℕ) (vs : List Tok) (sp : Spells behind vs) where
         lexes : token (trimmed behind) ≡ token behind
@@ -107,8 +108,8 @@ module _ (types terms opens : ℕ) (bs pre rest : List ℕ) (ts : List Tok) (b :
         by (go s fs) over h q d c w = no-go m′ opens′ s (other′ fs) x y (sym (ap (λ l. walk m′ opens′ l d) (none-left behind vs (lexes ∙ q) sp) ∙ c .0) ∙ w)
         by (go s fs) (took v cs) h q d c w =
             let o = one-left behind (q .0) vs v (lexes ∙ q .1) sp in
-            let a : After′ fs (stop f) (turn m′ opens′ v s (other′ fs)) = subst (λ c. After′ fs c (turn m′ opens′ v s (other′ fs))) h (turn-after (λ s. s) (λ x. x) (λ y. y) (Full t t′) (Full u u′) m m′ opens opens′ (widens t u t′ u′ ht hu) ho v s fs (c .1)) in
-            let e = still (λ s. s) (λ x. x) (λ y. y) (Full t t′) (Full u u′) m m′ opens opens′ (widens t u t′ u′ ht hu) ho fs f (turn m′ opens′ v s (other′ fs)) k a in
+            let a : After′ fs (stop f) (turn m′ opens′ v s (other′ fs)) = subst (λ c. After′ fs c (turn m′ opens′ v s (other′ fs))) h (turn-after (wider t u t′ u′) m m′ opens opens′ (widens t u t′ u′ ht hu) ho v s fs (c .1)) in
+            let e = still (wider t u t′ u′) m m′ opens opens′ (widens t u t′ u′ ht hu) ho fs f (turn m′ opens′ v s (other′ fs)) k a in
             let is : walk m′ opens′ vs d ≡ stop f = ap (λ l. walk m′ opens′ l d) (o .1) ∙ ap (walk m′ opens′ (v ∷ o .0)) (c .0) ∙ ap (walk m′ opens′ (o .0)) e ∙ walk-stop m′ opens′ (o .0) f in
             no-stop m′ opens′ f x y (sym is ∙ w)
         by (go s fs) (refused j) h q d c w = not-left behind vs j (lexes ∙ q) sp
@@ -118,12 +119,63 @@ module _ (types terms opens : ℕ) (bs pre rest : List ℕ) (ts : List Tok) (b :
             no-stop m′ opens′ Misplaced x y (sym (ap (λ l. walk m′ opens′ l d) (o .1) ∙ ap (walk m′ opens′ (v ∷ o .0)) c) ∙ w)
         by (done s z) (refused j) h q d c w = not-left behind vs j (lexes ∙ q) sp
 
+      -- with more room of the kind that is lacking, a reading goes on behind the place
+      abbrev Roomier : Fault → Type 0
+      Roomier TooLong = ⊥
+      Roomier BadByte = ⊥
+      Roomier BadNumber = ⊥
+      Roomier Misplaced = ⊥
+      Roomier TooDeep = opens < opens′
+      Roomier NoTypeRow = t < t′
+      Roomier NoTermRow = u < u′
+
+      lively : (fs : List (Bracket ℕ ℕ)) (d : Turn Tables ℕ ℕ) (k : Fault) → Roomier k → After′ fs (stop k) d → Live d
+      lively fs d TooLong r a = absurd r
+      lively fs d BadByte r a = absurd r
+      lively fs d BadNumber r a = absurd r
+      lively fs d Misplaced r a = absurd r
+      lively fs d TooDeep r a =
+          let n = length-map fs (eb (wider t u t′ u′)) in
+          let k = a .3 in
+          subst Live (sym (a .2 ∙ ap (λ b. cond b (go (a .0) (eb (wider t u t′ u′) (a .1) ∷ other′ fs)) (stop TooDeep)) (lt-ltb (length (other′ fs)) opens′ (omega arith)))) tt
+      lively fs d NoTypeRow r a =
+          let p = a .3 .1 r in
+          subst Live (sym (a .2 ∙ ap (λ o. made-type o (other′ (a .1))) (p .1))) (give-type-live (p .0 .0) (p .0 .1) (other′ (a .1)) (wanted-other (wider t u t′ u′) (a .1) ∙ a .4))
+      lively fs d NoTermRow r a =
+          let p = a .3 .1 r in
+          subst Live (sym (a .2 ∙ ap (λ o. made o (other′ (a .1))) (p .1))) (give-live (p .0 .0) (p .0 .1) (other′ (a .1)) (wanted-other (wider t u t′ u′) (a .1) ∙ a .4))
+
+      no-lexical : (k : Fault) → Lexical k → Roomier k → ⊥
+      no-lexical TooLong l r = l
+      no-lexical BadByte l r = r
+      no-lexical BadNumber l r = r
+      no-lexical Misplaced l r = l
+      no-lexical TooDeep l r = l
+      no-lexical NoTypeRow l r = l
+      no-lexical NoTermRow l r = l
+
+      keeping : Kept′ at (walk m′ opens′ ts (go empty []))
+      keeping = subst (λ a. Kept′ a (walk m′ opens′ ts (go empty []))) walked (walk-after (wider t u t′ u′) m m′ opens opens′ (widens t u t′ u′ ht hu) ho ts (go empty []) (go empty []) (refl, (tt, (omega arith, omega arith), omega arith)))
+
+      further : Roomier f → (g : Fault) (q : ℕ) → length rest ≤ length bs → (n : ℕ) → length (pre ++ rest) < n → reading m′ opens′ (length bs) n (pre ++ rest) empty [] ≡ refused-at g q → length bs - length rest < q
+      further r g q l n short h = from at (token rest) refl halt keeping
+        where
+          from : (a : Turn Tables ℕ ℕ) (st : Step) → token rest ≡ st → Halt′ a st f → Kept′ a (walk m′ opens′ ts (go empty [])) → length bs - length rest < q
+          from (go s fs) over e x c = absurd (subst Roomier x r)
+          from (go s fs) (took v cs) e x c =
+              let a : After′ fs (stop f) (turn m′ opens′ v s (other′ fs)) = subst (λ c. After′ fs c (turn m′ opens′ v s (other′ fs))) x (turn-after (wider t u t′ u′) m m′ opens opens′ (widens t u t′ u′ ht hu) ho v s fs (c .1)) in
+              past m′ opens′ (length bs) g q rest v cs clear e l s (other′ fs) (lively fs (turn m′ opens′ v s (other′ fs)) f r a) b n empty [] (c .0) short h
+          from (go s fs) (refused k) e x c = absurd (no-lexical k (lexical rest k e) (subst Roomier x r))
+          from (done s y) over e x c = absurd x
+          from (done s y) (took v cs) e x c = absurd (subst Roomier x r)
+          from (done s y) (refused k) e x c = absurd (no-lexical k (lexical rest k e) (subst Roomier x r))
+          from (stop k) st e x c = absurd x
+
       refuted : Still′ → (behind : List ℕ) → Fronts rest behind → (e : Term) → Renders (pre ++ behind) e → length (rows-of e .0) ≤ t′ → length (rows-of e .1) ≤ u′ → depth e ≤ opens′ → ⊥
       refuted k behind fr e r et eu eo =
           let q = parts (before-instead behind (record { letters = fr .none Letter; digits = fr .none Digit }) b) (spells r) in
           let w = drive-walk m′ opens′ (toks e) empty [] (emit e empty) (driven m′ opens′ e empty eo ∙ emitted t′ u′ e .gives empty (et, eu)) in
-          let c : Kept′ at (walk m′ opens′ ts (go empty [])) = subst (λ a. Kept′ a (walk m′ opens′ ts (go empty []))) walked (walk-after (λ s. s) (λ x. x) (λ y. y) (Full t t′) (Full u u′) m m′ opens opens′ (widens t u t′ u′ ht hu) ho ts (go empty []) (go empty []) (refl, tt)) in
-          by k behind fr (rows-of e) (emit e empty .1) (q .others) (q .spells) at (token rest) halt (fr .same) (walk m′ opens′ ts (go empty [])) c
+          by k behind fr (rows-of e) (emit e empty .1) (q .others) (q .spells) at (token rest) halt (fr .same) (walk m′ opens′ ts (go empty [])) keeping
           (sym (walk-append m′ opens′ ts (q .others) (go empty [])) ∙ ap (λ l. walk m′ opens′ l (go empty [])) (sym (q .split)) ∙ w)
 
     -- nor of any, where rows do not matter
@@ -142,30 +194,30 @@ module _ (types terms opens : ℕ) (bs pre rest : List ℕ) (ts : List Tok) (b :
   lacking TooDeep at w h behind fr e r =
       ⊎-elim (λ l. l) (λ l. absurd (refuted TooDeep at w h (max t (length (rows-of e .0))) (max u (length (rows-of e .1))) opens (omega arith) (omega arith) (omega arith) (omega arith) behind fr e r (omega arith) (omega arith) l)) (order opens (depth e))
   lacking NoTypeRow at w h behind fr e r =
-      ⊎-elim (λ l. l) (λ l. absurd (refuted NoTypeRow at w h t (max u (length (rows-of e .1))) (max opens (depth e)) (omega arith) (omega arith) (omega arith) (λ o few. few (omega arith)) behind fr e r l (omega arith) (omega arith))) (order t (length (rows-of e .0)))
+      ⊎-elim (λ l. l) (λ l. absurd (refuted NoTypeRow at w h t (max u (length (rows-of e .1))) (max opens (depth e)) (omega arith) (omega arith) (omega arith) (λ o few. few .0 (omega arith)) behind fr e r l (omega arith) (omega arith))) (order t (length (rows-of e .0)))
   lacking NoTermRow at w h behind fr e r =
-      ⊎-elim (λ l. l) (λ l. absurd (refuted NoTermRow at w h (max t (length (rows-of e .0))) u (max opens (depth e)) (omega arith) (omega arith) (omega arith) (λ o few. few (omega arith)) behind fr e r (omega arith) l (omega arith))) (order u (length (rows-of e .1)))
+      ⊎-elim (λ l. l) (λ l. absurd (refuted NoTermRow at w h (max t (length (rows-of e .0))) u (max opens (depth e)) (omega arith) (omega arith) (omega arith) (λ o few. few .0 (omega arith)) behind fr e r (omega arith) l (omega arith))) (order u (length (rows-of e .1)))
 
   -- ---- the text before the place
 
   module _ (room : ℕ) (more : opens ≤ room) where
     abbrev bracket : Bracket ℕ ℕ → Open
-    bracket = eb {S = Tables} (λ s. tt) (λ x. tt) (λ y. tt) Can Can
+    bracket = eb free
 
     abbrev others : List (Bracket ℕ ℕ) → List Open
-    others = other {S = Tables} (λ s. tt) (λ x. tt) (λ y. tt) Can Can
+    others = other free
 
     abbrev Freed : Turn Tables ℕ ℕ → Told → Type 0
-    Freed = Kept (λ s. tt) (λ x. tt) (λ y. tt) Can Can m any opens room (frees m) more
+    Freed = Kept free m any opens room (frees m) more
 
     freed : (at : Turn Tables ℕ ℕ) → walk m opens ts (go empty []) ≡ at → Freed at (walk any room ts (go tt []))
-    freed at w = subst (λ a. Freed a (walk any room ts (go tt []))) w (walk-after (λ s. tt) (λ x. tt) (λ y. tt) Can Can m any opens room (frees m) more ts (go empty []) (go tt []) (refl, tt))
+    freed at w = subst (λ a. Freed a (walk any room ts (go tt []))) w (walk-after free m any opens room (frees m) more ts (go empty []) (go tt []) (refl, (tt, tt, omega arith)))
 
     completes-good : (fs : List (Bracket ℕ ℕ)) → Good fs → Completes room (go tt (others fs))
-    completes-good fs g = completes room (others fs) (good-other {S = Tables} (λ s. tt) (λ x. tt) (λ y. tt) Can Can fs g)
+    completes-good fs g = completes room (others fs) (good-other free fs g)
 
     alive : (f : Fault) (at : Turn Tables ℕ ℕ) (st : Step) → walk m opens ts (go empty []) ≡ at → Halt′ at st f → Completes room (walk any room ts (go tt []))
-    alive f (go s fs) st w h = let c = freed (go s fs) w in subst (Completes room) (sym (c .0)) (completes-good fs (c .1))
+    alive f (go s fs) st w h = let c = freed (go s fs) w in subst (Completes room) (sym (c .0)) (completes-good fs (c .1 .0))
     alive f (done s y) st w h = subst (Completes room) (sym (freed (done s y) w)) (completed room)
     alive f (stop j) st w h = absurd h
 
@@ -178,12 +230,12 @@ module _ (types terms opens : ℕ) (bs pre rest : List ℕ) (ts : List Tok) (b :
     typed : (o : Option (Unit {0} × Unit {0})) (fs : List (Bracket ℕ ℕ)) (d : Told) → d ≡ made-type o (others fs) → Can o → wanted fs ≡ a-type → Good fs → Completes room d
     typed o fs d e c w g =
         subst (Completes room) (sym (e ∙ ap (λ o. made-type o (others fs)) c))
-        (given-type room (others fs) (good-other {S = Tables} (λ s. tt) (λ x. tt) (λ y. tt) Can Can fs g) (wanted-other {S = Tables} (λ s. tt) (λ x. tt) (λ y. tt) Can Can fs ∙ w))
+        (given-type room (others fs) (good-other free fs g) (wanted-other free fs ∙ w))
 
     termed : (o : Option (Unit {0} × Unit {0})) (fs : List (Bracket ℕ ℕ)) (d : Told) → d ≡ made o (others fs) → Can o → wanted fs ≡ a-term → Good fs → Completes room d
     termed o fs d e c w g =
         subst (Completes room) (sym (e ∙ ap (λ o. made o (others fs)) c))
-        (given room (others fs) (good-other {S = Tables} (λ s. tt) (λ x. tt) (λ y. tt) Can Can fs g) (wanted-other {S = Tables} (λ s. tt) (λ x. tt) (λ y. tt) Can Can fs ∙ w))
+        (given room (others fs) (good-other free fs g) (wanted-other free fs ∙ w))
 
   before : (f : Fault) (at : Turn Tables ℕ ℕ) (st : Step) → walk m opens ts (go empty []) ≡ at → Halt′ at st f → Begins pre
   before f at st w h = begins opens pre ts (λ cs. before-instead (32 ∷ cs) (space-instead rest cs) b) (alive opens (omega arith) f at st w h)
@@ -226,7 +278,7 @@ module _ (types terms opens : ℕ) (bs pre rest : List ℕ) (ts : List Tok) (b :
         (before-instead (spelling v ++ 32 ∷ ds) (record { letters = run-instead Letter (spelling v) cs (32 ∷ ds) (λ q. refl); digits = run-instead Digit (spelling v) cs (32 ∷ ds) (λ q. refl) }) (subst (λ l. Before l pre ts) (r .0) b)))
         (subst (Completes room) (sym (walk-append any room ts (v ∷ []) (go tt []) ∙ ap (walk any room (v ∷ [])) (freed room (omega arith) (go s fs) w .0))) c))
 
-    turned : (f : Fault) → After (λ s. tt) (λ x. tt) (λ y. tt) Can Can m any opens room fs (stop f) led → Stood f
+    turned : (f : Fault) → After free m any opens room fs (stop f) led → Stood f
     turned TooLong a = a
     turned BadByte a = absurd a
     turned BadNumber a = absurd a
@@ -236,7 +288,7 @@ module _ (types terms opens : ℕ) (bs pre rest : List ℕ) (ts : List Tok) (b :
     turned NoTermRow a = with-token (termed room (omega arith) (a .0) (a .1) led (a .2) (a .3) (a .4) (a .5))
 
     stopped : (f : Fault) → turn m opens v s fs ≡ stop f → Stood f
-    stopped f h = turned f (subst (λ c. After (λ s. tt) (λ x. tt) (λ y. tt) Can Can m any opens room fs c led) h (turn-after (λ s. tt) (λ x. tt) (λ y. tt) Can Can m any opens room (frees m) (omega arith) v s fs (freed room (omega arith) (go s fs) w .1)))
+    stopped f h = turned f (subst (λ c. After free m any opens room fs c led) h (turn-after free m any opens room (frees m) (omega arith) v s fs (freed room (omega arith) (go s fs) w .1)))
 
   stood : (f : Fault) (at : Turn Tables ℕ ℕ) (st : Step) → token rest ≡ st → walk m opens ts (go empty []) ≡ at → Halt′ at st f → Stood f
   stood f (go s fs) over e w h = subst Stood (sym h) (ap fault-of e)
@@ -288,7 +340,7 @@ module _ (types terms opens : ℕ) (bs : List ℕ) (short : length bs ≤ 16384)
     take-end : take (end-at bs p) bs ≡ pre ++ take (width behind) behind
     take-end = ap (take (end-at bs p)) is ∙ take-past pre behind (width behind) (end-at bs p) end-is
 
-    standing : (g : Fault) → Stood types terms opens bs pre behind (halted .tokens) (halted .passed .before) (halted .clear) g → Stands 16384 1024 2048 types terms opens bs g p
+    standing : (g : Fault) → Stood types terms opens bs pre behind (halted .tokens) (halted .passed .before) (halted .clear) some g → Stands 16384 1024 2048 types terms opens bs g p
     standing TooLong a = a
     standing BadByte a = ap (λ l. fault-of (token l)) drop-is ∙ a
     standing BadNumber a = ap (λ l. fault-of (token l)) drop-is ∙ a
@@ -303,7 +355,7 @@ module _ (types terms opens : ℕ) (bs : List ℕ) (short : length bs ≤ 16384)
         let d = ap width (ap (drop p) (c .split) ∙ drop-at pre (c .behind) p long) in
         let w = ap width drop-is in
         let ends = q .1 in
-        lacking types terms opens bs pre behind (halted .tokens) (halted .passed .before) (halted .clear) f (halted .at) (halted .walked) (halted .halt) (c .behind)
+        lacking types terms opens bs pre behind (halted .tokens) (halted .passed .before) (halted .clear) some f (halted .at) (halted .walked) (halted .halt) (c .behind)
         (fronts behind (c .behind) (omega arith) (c .alike)) e (subst (λ l. Renders l e) (c .split) r)
 
     module _ (types′ terms′ opens′ : ℕ) (ht : types ≤ types′) (hu : terms ≤ terms′) (ho : opens ≤ opens′) where
@@ -315,7 +367,7 @@ module _ (types terms opens : ℕ) (bs : List ℕ) (short : length bs ≤ 16384)
 
       abbrev Still″ : Fault → Type 0
       Still″ =
-          Still (λ s. s) (λ x. x) (λ y. y) (Full (min types 1024) (min types′ 1024)) (Full (min terms 2048) (min terms′ 2048)) by-tables (into-tables (min types′ 1024) (min terms′ 2048)) opens opens′
+          Still (wider (min types 1024) (min terms 2048) (min types′ 1024) (min terms′ 2048)) by-tables (into-tables (min types′ 1024) (min terms′ 2048)) opens opens′
           (widens (min types 1024) (min terms 2048) (min types′ 1024) (min terms′ 2048) more-types more-terms) ho
 
       as-few : (g : Fault) → As-few 16384 1024 2048 types terms opens bs g types′ terms′ opens′ → Still″ g
@@ -324,14 +376,32 @@ module _ (types terms opens : ℕ) (bs : List ℕ) (short : length bs ≤ 16384)
       as-few BadNumber q = tt
       as-few Misplaced q = tt
       as-few TooDeep q = omega arith
-      as-few NoTypeRow q = λ o full. full (omega arith)
-      as-few NoTermRow q = λ o full. full (omega arith)
+      as-few NoTypeRow q = λ o full. full .0 (omega arith)
+      as-few NoTermRow q = λ o full. full .0 (omega arith)
 
       helpless : As-few 16384 1024 2048 types terms opens bs f types′ terms′ opens′ → outcome-within 16384 1024 2048 types′ terms′ opens′ bs ≡ refused-at f p
       helpless few =
           in-bounds types′ terms′ opens′ false (ne-eqb types′ 0 (λ e. omega arith))
-          ∙ keeps (λ s. s) (λ x. x) (λ y. y) (Full (min types 1024) (min types′ 1024)) (Full (min terms 2048) (min terms′ 2048)) by-tables (into-tables (min types′ 1024) (min terms′ 2048)) opens opens′
-          (widens (min types 1024) (min terms 2048) (min types′ 1024) (min terms′ 2048) more-types more-terms) ho (length bs) f p (as-few f few) (suc (length bs)) bs empty [] tt h
+          ∙ keeps (wider (min types 1024) (min terms 2048) (min types′ 1024) (min terms′ 2048)) by-tables (into-tables (min types′ 1024) (min terms′ 2048)) opens opens′
+          (widens (min types 1024) (min terms 2048) (min types′ 1024) (min terms′ 2048) more-types more-terms) ho (length bs) f p (as-few f few) (suc (length bs)) bs empty [] (tt, (omega arith, omega arith), omega arith) h
+
+      roomier : (k : Fault) → More 16384 1024 2048 types terms opens bs k types′ terms′ opens′
+          → Roomier types terms opens bs pre behind (halted .tokens) (halted .passed .before) (halted .clear) some f (halted .at) (halted .walked) (halted .halt) (min types′ 1024) (min terms′ 2048) opens′ more-types more-terms ho k
+      roomier TooLong r = absurd r
+      roomier BadByte r = absurd r
+      roomier BadNumber r = absurd r
+      roomier Misplaced r = absurd r
+      roomier TooDeep r = r
+      roomier NoTypeRow r = r .1
+      roomier NoTermRow r = r
+
+      goes-past : More 16384 1024 2048 types terms opens bs f types′ terms′ opens′ → (g : Fault) (q : ℕ) → outcome-within 16384 1024 2048 types′ terms′ opens′ bs ≡ refused-at g q → p < q
+      goes-past r g q o =
+          let l = ap length is ∙ length-append pre behind in
+          let reads : read (into-tables (min types′ 1024) (min terms′ 2048)) opens′ (length bs) bs empty ≡ refused-at g q = sym (in-bounds types′ terms′ opens′ false (ne-eqb types′ 0 (λ e. omega arith))) ∙ o in
+          let k = further types terms opens bs pre behind (halted .tokens) (halted .passed .before) (halted .clear) some f (halted .at) (halted .walked) (halted .halt) (min types′ 1024) (min terms′ 2048) opens′ more-types more-terms ho (roomier f r) g q (omega arith) (suc (length bs)) (let e = ap length is in omega arith) (ap (λ l. reading (into-tables (min types′ 1024) (min terms′ 2048)) opens′ (length bs) (suc (length bs)) l empty []) (sym is) ∙ reads) in
+          let e = halted .place in
+          omega arith
 
     refusal : Fault-at 16384 1024 2048 types terms opens bs f p
     refusal = record {
@@ -341,13 +411,13 @@ module _ (types terms opens : ℕ) (bs : List ℕ) (short : length bs ≤ 16384)
           let k = long in
           let h = none-over (halted .passed .before) i (omega arith) in
           omega arith;
-      stands = standing f (stood types terms opens bs pre behind (halted .tokens) (halted .passed .before) (halted .clear) f (halted .at) (token behind) refl (halted .walked) (halted .halt));
-      before = subst Begins (sym (ap (take p) is ∙ take-at pre behind p long)) (before types terms opens bs pre behind (halted .tokens) (halted .passed .before) (halted .clear) f (halted .at) (token behind) (halted .walked) (halted .halt));
+      stands = standing f (stood types terms opens bs pre behind (halted .tokens) (halted .passed .before) (halted .clear) some f (halted .at) (token behind) refl (halted .walked) (halted .halt));
+      before = subst Begins (sym (ap (take p) is ∙ take-at pre behind p long)) (before types terms opens bs pre behind (halted .tokens) (halted .passed .before) (halted .clear) some f (halted .at) (token behind) (halted .walked) (halted .halt));
       there = alike;
     }
 
     read-rightly : Rightly 16384 1024 2048 types terms opens bs f p
-    read-rightly = record { long = λ l. absurd (omega arith); short = λ s. refusal; rows = helpless }
+    read-rightly = record { long = λ l. absurd (omega arith); short = λ s. refusal; rows = helpless; past = goes-past }
 
   -- no type row is handed over, not even for nat
   rowless : types ≡ 0 → Rightly 16384 1024 2048 types terms opens bs NoTypeRow 0
@@ -361,6 +431,7 @@ module _ (types terms opens : ℕ) (bs : List ℕ) (short : length bs ≤ 16384)
       there = λ cs q e r. let g = emitted 0 0 e .grows empty in omega arith;
     };
     rows = λ types′ terms′ opens′ ht hu ho few. in-bounds types′ terms′ opens′ true (eq-eqb types′ 0 (omega arith));
+    past = λ types′ terms′ opens′ ht hu ho r. let some = r .0 in absurd (omega arith);
   }
 
 too-long : (types terms opens : ℕ) (bs : List ℕ) → 16384 < length bs → Rightly 16384 1024 2048 types terms opens bs TooLong 16384
@@ -368,6 +439,7 @@ too-long types terms opens bs h = record {
   long = λ l. (refl, refl);
   short = λ s. absurd (omega arith);
   rows = λ types′ terms′ opens′ ht hu ho few. ap (λ b. cond b (refused-at TooLong 16384) (cond (eqb types′ 0) (refused-at NoTypeRow 0) (read (into-tables (min types′ 1024) (min terms′ 2048)) opens′ (length bs) bs empty))) (lt-ltb 16384 (length bs) h);
+  past = λ types′ terms′ opens′ ht hu ho r. absurd r;
 }
 
 pub refuses-rightly : Refuses-rightly 16384 1024 2048

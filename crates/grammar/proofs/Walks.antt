@@ -9,6 +9,7 @@ use lib.ListN.{length}
 use borrow.Author.Tests.{lt-ltb, le-ltb, ltb-true, ltb-false}
 use Rattle.std.specs.declared.option.Option.{Option}
 use Rattle.std.specs.declared.option.Option.the-variants.{Some, None}
+use Rattle.std.proofs.shelf.Lists.{length-push}
 use Rattle.rows.specs.declared.tables.TypeRow.{TypeRow}
 use Rattle.rows.specs.declared.tables.TermRow.{TermRow}
 use Rattle.rows.specs.Forms.{shape-kind}
@@ -20,7 +21,7 @@ use Rattle.grammar.specs.Tokens.{Tok}
 use Rattle.grammar.specs.Reader.{Maker, Bracket, Turn, go, done, stop, turn}
 use Rattle.grammar.specs.TableMaker.{row-made, type-made, into-tables}
 use Rattle.grammar.proofs.Grow.{nothing, finished, turned, drive}
-use Rattle.grammar.proofs.Follows.{walk, Like, Follows}
+use Rattle.grammar.proofs.Follows.{walk, Image, Like, Follows}
 use Rattle.grammar.proofs.Completes.{any}
 
 module _ {S X Y : Type 0} (m : Maker S X Y) (room : ℕ) where
@@ -71,35 +72,56 @@ module _ {S X Y : Type 0} (m : Maker S X Y) (room : ℕ) where
 
 -- ---- tables with more room
 
--- with no more room nothing more is made
+-- a making where there was no room: nothing is made with no more room, and with more something is
 abbrev pub Full : ℕ → ℕ → Option (Tables × ℕ) → Type 0
-Full n n′ o = n′ ≤ n → o ≡ None
+Full n n′ o = (n′ ≤ n → o ≡ None) × (n < n′ → (p : Tables × ℕ) × (o ≡ Some p))
+
+-- tables with more room
+abbrev pub wider : ℕ → ℕ → ℕ → ℕ → Image Tables ℕ ℕ Tables ℕ ℕ
+wider t u t′ u′ = record { state = λ s. s; type = λ x. x; term = λ y. y; Kept-fact = λ s. (length (s .0) ≤ t) × (length (s .1) ≤ u); No-type = Full t t′; No-term = Full u u′ }
 
 module _ (t u t′ u′ : ℕ) (more-types : t ≤ t′) (more-terms : u ≤ u′) where
-  abbrev Widens : (Option (Tables × ℕ) → Type 0) → Option (Tables × ℕ) → Option (Tables × ℕ) → Type 0
-  Widens = Like (λ s. s) (λ (x : ℕ). x) (λ (y : ℕ). y) (Full t t′) (Full u u′) (λ z. z)
+  abbrev Within : Tables → Type 0
+  Within s = (length (s .0) ≤ t) × (length (s .1) ≤ u)
 
-  type-wider : (r : TypeRow) (s : Tables) → Widens (Full t t′) (type-made t r s) (type-made t′ r s)
-  type-wider r s = by (ltb (row-place r (s .0)) (length (s .0))) (ltb (length (s .0)) t) refl
+  abbrev Widens : (Option (Tables × ℕ) → Type 0) → Option (Tables × ℕ) → Option (Tables × ℕ) → Type 0
+  Widens = Like (wider t u t′ u′) (λ z. z)
+
+  type-wider : (r : TypeRow) (s : Tables) → Within s → Widens (Full t t′) (type-made t r s) (type-made t′ r s)
+  type-wider r s k = by (ltb (row-place r (s .0)) (length (s .0))) (ltb (length (s .0)) t) refl
     where
       by : (b c : Bool) → ltb (length (s .0)) t ≡ c → Widens (Full t t′) (cond b (Some (s, row-place r (s .0))) (cond c (Some ((s .0 ++ r ∷ [], s .1), length (s .0))) None)) (cond b (Some (s, row-place r (s .0))) (cond (ltb (length (s .0)) t′) (Some ((s .0 ++ r ∷ [], s .1), length (s .0))) None))
-      by true c e = refl
-      by false true e = let l = ltb-true (length (s .0)) t e in ap (λ b. cond b (Some ((s .0 ++ r ∷ [], s .1), length (s .0))) None) (lt-ltb (length (s .0)) t′ (omega arith))
-      by false false e = λ few. let l = ltb-false (length (s .0)) t e in ap (λ b. cond b (Some ((s .0 ++ r ∷ [], s .1), length (s .0))) None) (le-ltb (length (s .0)) t′ (omega arith))
+      by true c e = (refl, k)
+      by false true e =
+          let l = ltb-true (length (s .0)) t e in
+          let n = length-push (s .0) r in
+          (ap (λ b. cond b (Some ((s .0 ++ r ∷ [], s .1), length (s .0))) None) (lt-ltb (length (s .0)) t′ (omega arith)), (omega arith, k .1))
+      by false false e =
+          let l = ltb-false (length (s .0)) t e in (
+            λ few. ap (λ b. cond b (Some ((s .0 ++ r ∷ [], s .1), length (s .0))) None) (le-ltb (length (s .0)) t′ (omega arith)),
+            λ some. (((s .0 ++ r ∷ [], s .1), length (s .0)), ap (λ b. cond b (Some ((s .0 ++ r ∷ [], s .1), length (s .0))) None) (lt-ltb (length (s .0)) t′ (let j = k .0 in omega arith))),
+          )
 
-  row-wider : (r : TermRow) (s : Tables) → Widens (Full u u′) (row-made u r s) (row-made u′ r s)
-  row-wider r s = by (ltb (length (s .1)) u) refl
+  row-wider : (r : TermRow) (s : Tables) → Within s → Widens (Full u u′) (row-made u r s) (row-made u′ r s)
+  row-wider r s k = by (ltb (length (s .1)) u) refl
     where
       by : (c : Bool) → ltb (length (s .1)) u ≡ c → Widens (Full u u′) (cond c (Some ((s .0, s .1 ++ r ∷ []), length (s .1))) None) (row-made u′ r s)
-      by true e = let l = ltb-true (length (s .1)) u e in ap (λ b. cond b (Some ((s .0, s .1 ++ r ∷ []), length (s .1))) None) (lt-ltb (length (s .1)) u′ (omega arith))
-      by false e = λ few. let l = ltb-false (length (s .1)) u e in ap (λ b. cond b (Some ((s .0, s .1 ++ r ∷ []), length (s .1))) None) (le-ltb (length (s .1)) u′ (omega arith))
+      by true e =
+          let l = ltb-true (length (s .1)) u e in
+          let n = length-push (s .1) r in
+          (ap (λ b. cond b (Some ((s .0, s .1 ++ r ∷ []), length (s .1))) None) (lt-ltb (length (s .1)) u′ (omega arith)), (k .0, omega arith))
+      by false e =
+          let l = ltb-false (length (s .1)) u e in (
+            λ few. ap (λ b. cond b (Some ((s .0, s .1 ++ r ∷ []), length (s .1))) None) (le-ltb (length (s .1)) u′ (omega arith)),
+            λ some. (((s .0, s .1 ++ r ∷ []), length (s .1)), ap (λ b. cond b (Some ((s .0, s .1 ++ r ∷ []), length (s .1))) None) (lt-ltb (length (s .1)) u′ (let j = k .1 in omega arith))),
+          )
 
-  pub widens : Follows (λ s. s) (λ x. x) (λ y. y) (Full t t′) (Full u u′) (into-tables t u) (into-tables t′ u′)
+  pub widens : Follows (wider t u t′ u′) (into-tables t u) (into-tables t′ u′)
   widens = record {
     natural = refl;
-    shape = λ k l r s. type-wider (type-row (shape-kind k) l r) s;
-    leaf = λ k n s. row-wider (leaf-row k n) s;
-    form = λ f xs ys s. subst (λ (p : List ℕ × List ℕ). Widens (Full u u′) (row-made u (form-row f xs ys) s) (row-made u′ (form-row f (p .0) (p .1)) s)) (λ i. (sym (map-id xs) i, sym (map-id ys) i)) (row-wider (form-row f xs ys) s);
+    shape = λ k l r s w. type-wider (type-row (shape-kind k) l r) s w;
+    leaf = λ k n s w. row-wider (leaf-row k n) s w;
+    form = λ f xs ys s w. subst (λ (p : List ℕ × List ℕ). Widens (Full u u′) (row-made u (form-row f xs ys) s) (row-made u′ (form-row f (p .0) (p .1)) s)) (λ i. (sym (map-id xs) i, sym (map-id ys) i)) (row-wider (form-row f xs ys) s w);
   }
 
 -- ---- the maker that always can
@@ -108,10 +130,13 @@ module _ (t u t′ u′ : ℕ) (more-types : t ≤ t′) (more-terms : u ≤ u�
 abbrev pub Can : Option (Unit {0} × Unit {0}) → Type 0
 Can o = o ≡ Some (tt, tt)
 
-module _ {S X Y : Type 0} (m : Maker S X Y) where
-  can : {Z : Type 0} (o : Option (S × Z)) → Like {S = S} {X = X} {Y = Y} (λ s. tt) (λ x. tt) (λ y. tt) Can Can (λ (z : Z). tt) Can o (Some (tt, tt))
-  can None = refl
-  can (Some p) = refl
+abbrev pub free : Image Tables ℕ ℕ (Unit {0}) (Unit {0}) (Unit {0})
+free = record { state = λ s. tt; type = λ x. tt; term = λ y. tt; Kept-fact = λ s. Unit {0}; No-type = Can; No-term = Can }
 
-  pub frees : Follows (λ s. tt) (λ x. tt) (λ y. tt) Can Can m any
-  frees = record { natural = refl; shape = λ k l r s. can (m .shape k l r s); leaf = λ k n s. can (m .leaf k n s); form = λ f xs ys s. can (m .form f xs ys s) }
+module _ (m : Maker Tables ℕ ℕ) where
+  can : (o : Option (Tables × ℕ)) → Like free (λ (z : ℕ). tt) Can o (Some (tt, tt))
+  can None = refl
+  can (Some p) = (refl, tt)
+
+  pub frees : Follows free m any
+  frees = record { natural = refl; shape = λ k l r s w. can (m .shape k l r s); leaf = λ k n s w. can (m .leaf k n s); form = λ f xs ys s w. can (m .form f xs ys s) }

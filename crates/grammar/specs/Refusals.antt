@@ -70,6 +70,16 @@ module _ (most-bytes most-types most-terms types terms opens : ℕ) (bs : List �
   As-few NoTypeRow types′ terms′ opens′ = types′ ≡ types
   As-few NoTermRow types′ terms′ opens′ = terms′ ≡ terms
 
+  -- there are more of them
+  abbrev pub More : Fault → ℕ → ℕ → ℕ → Type 0
+  More TooLong types′ terms′ opens′ = ⊥
+  More BadByte types′ terms′ opens′ = ⊥
+  More BadNumber types′ terms′ opens′ = ⊥
+  More Misplaced types′ terms′ opens′ = ⊥
+  More TooDeep types′ terms′ opens′ = opens < opens′
+  More NoTypeRow types′ terms′ opens′ = (0 < types) × (min types most-types < min types′ most-types)
+  More NoTermRow types′ terms′ opens′ = min terms most-terms < min terms′ most-terms
+
   -- what stands at the place of a fault: that which has the fault, or else a token that may stand there
   abbrev pub Stands : Fault → ℕ → Type 0
   Stands TooLong p = ⊥
@@ -99,8 +109,10 @@ module _ (most-bytes most-types most-terms types terms opens : ℕ) (bs : List �
     pub long : most-bytes < length bs → (f ≡ TooLong) × (p ≡ most-bytes)
     -- any other has that fault at that place
     pub short : length bs ≤ most-bytes → Fault-at f p
-    -- and more rows do not help, unless they are of the kind that is lacking
+    -- more rows do not help, unless they are of the kind that is lacking
     pub rows : (types′ terms′ opens′ : ℕ) → types ≤ types′ → terms ≤ terms′ → opens ≤ opens′ → As-few f types′ terms′ opens′ → outcome-within most-bytes most-types most-terms types′ terms′ opens′ bs ≡ refused-at f p
+    -- with more of these, the text is refused only further on, if at all
+    pub past : (types′ terms′ opens′ : ℕ) → types ≤ types′ → terms ≤ terms′ → opens ≤ opens′ → More f types′ terms′ opens′ → (g : Fault) (q : ℕ) → outcome-within most-bytes most-types most-terms types′ terms′ opens′ bs ≡ refused-at g q → p < q
 
 -- a text that is refused is refused rightly
 abbrev pub Refuses-rightly : ℕ → ℕ → ℕ → Type 0
