@@ -2,14 +2,13 @@
 use mathlib.Core.Path.{_≡_, refl, sym, ap, subst, _∙_}
 use mathlib.Core.Bool.{Bool, true, false, cond}
 use mathlib.Core.List.{List, [], _∷_, _++_}
-use Prim.Native.Nat.{ℕ, zero, suc, _+_, _≤_, _<_}
+use Prim.Native.Nat.{ℕ, zero, suc, _+_, _≤_}
 use native.Mathlib.Omega.{arith}
 use lib.Chars.{codes}
 use lib.Dec.{ltb}
 use lib.ListN.{length}
 use borrow.Author.Tests.{le-ltb}
-use Rattle.std.specs.declared.option.Option.{Option}
-use Rattle.std.specs.declared.option.Option.the-variants.{Some, None}
+use Rattle.std.specs.declared.option.Option.the-variants.{Some}
 use Rattle.std.proofs.shelf.Lists.{length-push}
 use Rattle.rows.specs.declared.forms.Form.{Form}
 use Rattle.rows.specs.declared.forms.Form.the-variants.{Succ}
@@ -18,8 +17,8 @@ use Rattle.rows.specs.declared.forms.Shape.the-variants.{To}
 use Rattle.rows.specs.Forms.{types, parts}
 use Rattle.theory.specs.Lists.{All}
 use Rattle.grammar.specs.declared.fault.Fault.the-variants.{Misplaced}
-use Rattle.grammar.specs.Tokens.{Tok, lpar, rpar, word, number, name}
-use Rattle.grammar.specs.Reader.{Maker, Bracket, term-word, type-word, open-type, open-term, Want, a-term, a-type, a-close, wanted, Turn, go, done, stop, give, give-type, meet, turn}
+use Rattle.grammar.specs.Tokens.{Tok, rpar, word, number}
+use Rattle.grammar.specs.Reader.{Maker, Bracket, term-word, type-word, open-type, open-term, a-term, a-type, a-close, wanted, Turn, go, done, stop, give, give-type, meet, turn}
 use Rattle.grammar.specs.Renders.{spelling, Fits, Written, end, space, token}
 use Rattle.grammar.proofs.Follows.{Good, role, walk}
 

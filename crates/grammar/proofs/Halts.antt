@@ -15,7 +15,7 @@ use Rattle.grammar.specs.declared.fault.Fault.the-variants.{Misplaced}
 use Rattle.grammar.specs.Bytes.{class, alike, run}
 use Rattle.grammar.specs.Tokens.{Tok, Step, lpar, rpar, word, number, name as hash, over, took, refused, token, trimmed}
 use Rattle.grammar.specs.Runs.{shorter}
-use Rattle.grammar.specs.Reader.{Maker, Bracket, Turn, go, done, stop, turn, Outcome, accepted, refused-at, ended, place, after-turn, after-token, reading}
+use Rattle.grammar.specs.Reader.{Maker, Bracket, Turn, go, done, stop, turn, Outcome, refused-at, ended, place, after-turn, after-token, reading}
 use Rattle.grammar.specs.Renders.{spelling, Fits, Written}
 use Rattle.grammar.specs.Renders as w
 use Rattle.grammar.proofs.Lexed.{unspaced, token-is, Right, right, alike-true, space-byte, run-after}

@@ -1,5 +1,5 @@
--- A text has one fault of its own at most.
-use mathlib.Core.Path.{_≡_, refl, sym, ap, subst, _∙_}
+-- A text goes wrong at one place at most.
+use mathlib.Core.Path.{_≡_, refl, sym, ap, _∙_}
 use mathlib.Core.Bool.{Bool, true, false, cond}
 use mathlib.Core.Logic.{⊎-elim}
 use mathlib.Core.List.{List, [], _∷_, _++_}
@@ -8,14 +8,12 @@ use native.Mathlib.Omega.{arith}
 use lib.ListN.{length, take, drop, length-take, length-drop}
 use Rattle.std.proofs.str.Laws.{order}
 use Rattle.std.proofs.shelf.Lists.{take-append-le, take-take, drop-append-le, drop-take}
-use Rattle.theory.specs.Syntax.{Term}
 use Rattle.grammar.specs.declared.bytes.Class.{Class}
 use Rattle.grammar.specs.declared.bytes.Class.the-variants.{Space, Open, Close, Hash, Digit, Letter, Other}
 use Rattle.grammar.specs.declared.fault.Fault.{Fault}
-use Rattle.grammar.specs.declared.fault.Fault.the-variants.{TooLong, BadByte, BadNumber, Misplaced, TooDeep, NoTypeRow, NoTermRow}
 use Rattle.grammar.specs.Bytes.{class, alike, run}
 use Rattle.grammar.specs.Tokens.{token}
-use Rattle.grammar.specs.Refusals.{together, width, end-at, Alike, fault-of, Lacking, Stands, Fault-at, Of-text, Faults-once}
+use Rattle.grammar.specs.Refusals.{together, width, end-at, Alike, fault-of, Wrong-at, Wrong-once}
 
 -- ---- a text cut behind what stands at its front, with a space there
 
@@ -53,35 +51,13 @@ cut-alike p q bs cs l w h =
     let e : width (drop q (take p bs ++ 32 ∷ cs)) ≡ width (drop q bs) = ap width d ∙ width-cut cs (p - q) (drop q bs) (omega arith) (omega arith) (omega arith) in
     (take-append-le (end-at bs q) (take p bs) (32 ∷ cs) (omega arith) ∙ take-take (end-at bs q) p bs h, ap (λ x. q + x) e)
 
-module _ (types terms opens : ℕ) (bs : List ℕ) where
-  abbrev Faulty : Fault → ℕ → Type 0
-  Faulty = Fault-at 16384 1024 2048 types terms opens bs
+-- no place where a text goes wrong is before another
+not-before : (bs : List ℕ) (f g : Fault) (p q : ℕ) → Wrong-at bs f p → Wrong-at bs g q → q < p → ⊥
+not-before bs f g p q a b l =
+    let c = a .1 .before in
+    b .1 .there (take p bs ++ 32 ∷ c .0) (cut-alike p q bs (c .0) l (a .1 .within) (a .1 .apart q l)) (c .1) (c .2)
 
-  no-rows : (g : Fault) (e : Term) → Of-text g → Lacking 16384 1024 2048 types terms opens bs g e → ⊥
-  no-rows TooLong e o l = o
-  no-rows BadByte e o l = l
-  no-rows BadNumber e o l = l
-  no-rows Misplaced e o l = l
-  no-rows TooDeep e o l = o
-  no-rows NoTypeRow e o l = o
-  no-rows NoTermRow e o l = o
-
-  -- no fault is before another
-  not-before : (f g : Fault) (p q : ℕ) → Of-text g → Faulty f p → Faulty g q → q < p → ⊥
-  not-before f g p q o a b l =
-      let c = a .before in
-      no-rows g (c .1) o (b .there (take p bs ++ 32 ∷ c .0) (cut-alike p q bs (c .0) l (a .within) (a .apart q l)) (c .1) (c .2))
-
-  told : (f : Fault) (p : ℕ) → Of-text f → Stands 16384 1024 2048 types terms opens bs f p → fault-of (token (drop p bs)) ≡ f
-  told TooLong p o s = absurd o
-  told BadByte p o s = s
-  told BadNumber p o s = s
-  told Misplaced p o s = s
-  told TooDeep p o s = absurd o
-  told NoTypeRow p o s = absurd o
-  told NoTermRow p o s = absurd o
-
-pub faults-once : Faults-once 16384 1024 2048
-faults-once types terms opens bs f g p q of-f of-g a b =
-    let same : p ≡ q = ⊎-elim (λ l. absurd (not-before types terms opens bs g f q p of-f b a l)) (λ h. ⊎-elim (λ l. absurd (not-before types terms opens bs f g p q of-g a b l)) (λ k. omega arith) (order q p)) (order p q) in
-    (sym (told types terms opens bs f p of-f (a .stands)) ∙ ap (λ n. fault-of (token (drop n bs))) same ∙ told types terms opens bs g q of-g (b .stands), same)
+pub wrong-once : Wrong-once
+wrong-once bs f g p q a b =
+    let same : p ≡ q = ⊎-elim (λ l. absurd (not-before bs g f q p b a l)) (λ h. ⊎-elim (λ l. absurd (not-before bs f g p q a b l)) (λ k. omega arith) (order q p)) (order p q) in
+    (sym (a .0) ∙ ap (λ n. fault-of (token (drop n bs))) same ∙ b .0, same)

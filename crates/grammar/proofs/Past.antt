@@ -1,8 +1,8 @@
 -- A reading that takes a token is refused behind it, if at all.
-use mathlib.Core.Path.{_≡_, refl, sym, ap, subst, _∙_}
+use mathlib.Core.Path.{_≡_, sym, ap, subst, _∙_}
 use mathlib.Core.Bool.{Bool, true, false, cond}
 use mathlib.Core.List.{List, [], _∷_, _++_, append-assoc}
-use Prim.Native.Nat.{ℕ, zero, suc, _+_, _-_, _≤_, _<_}
+use Prim.Native.Nat.{ℕ, zero, suc, _-_, _≤_, _<_}
 use native.Mathlib.Omega.{arith}
 use lib.Dec.{ltb}
 use lib.ListN.{length, drop, length-append, length-drop}
@@ -13,8 +13,8 @@ use Rattle.grammar.specs.declared.fault.Fault.the-variants.{Misplaced}
 use Rattle.grammar.specs.Bytes.{run}
 use Rattle.grammar.specs.Tokens.{Tok, Step, over, took, refused, token, trimmed}
 use Rattle.grammar.specs.Runs.{shorter}
-use Rattle.grammar.specs.Reader.{Maker, Bracket, term-word, type-word, open-type, open-term, Want, a-term, a-type, a-close, wanted, Turn, go, done, stop, give, give-type, turn, Outcome, refused-at, ended, place, after-turn, after-token, reading}
-use Rattle.grammar.specs.Renders.{spelling, Fits}
+use Rattle.grammar.specs.Reader.{Maker, Bracket, term-word, type-word, open-type, open-term, a-term, a-type, a-close, wanted, Turn, go, done, stop, give, give-type, turn, Outcome, refused-at, ended, place, after-turn, after-token, reading}
+use Rattle.grammar.specs.Renders.{spelling}
 use Rattle.grammar.proofs.Lexed.{unspaced, token-is}
 use Rattle.grammar.proofs.Follows.{walk}
 use Rattle.grammar.proofs.Halts.{Before, start, space, next, halts}

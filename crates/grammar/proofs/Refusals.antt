@@ -2,19 +2,17 @@
 use mathlib.Core.Path.{_≡_, refl, sym, ap, subst, _∙_}
 use mathlib.Core.Bool.{Bool, true, false, cond}
 use mathlib.Core.Logic.{⊎-elim}
-use mathlib.Core.List.{List, [], _∷_, _++_, append-assoc}
-use Prim.Native.Nat.{ℕ, zero, suc, _+_, _-_, min, max, _≤_, _<_}
+use mathlib.Core.List.{List, [], _∷_, _++_}
+use Prim.Native.Nat.{ℕ, suc, _+_, _-_, min, max, _≤_, _<_}
 use native.Mathlib.Omega.{arith}
 use lib.Dec.{ltb, eqb}
-use lib.ListN.{length, take, drop, length-append, take-append-drop}
+use lib.ListN.{length, take, drop, length-append}
 use borrow.Author.Tests.{ltb-true, ltb-false, eqb-true, eqb-false, lt-ltb, le-ltb, eq-eqb, ne-eqb}
 use Rattle.std.specs.declared.option.Option.{Option}
-use Rattle.std.specs.declared.option.Option.the-variants.{Some, None}
 use Rattle.std.proofs.str.Laws.{order}
 use Rattle.std.proofs.shelf.Lists.{take-at, drop-at, length-map}
 use Rattle.theory.specs.Syntax.{Term}
 use Rattle.theory.specs.Emit.{Tables, emit, empty, rows-of}
-use Rattle.grammar.specs.declared.bytes.Class.{Class}
 use Rattle.grammar.specs.declared.bytes.Class.the-variants.{Space, Digit, Letter}
 use Rattle.grammar.specs.declared.fault.Fault.{Fault}
 use Rattle.grammar.specs.declared.fault.Fault.the-variants.{TooLong, BadByte, BadNumber, Misplaced, TooDeep, NoTypeRow, NoTermRow}
@@ -23,21 +21,20 @@ use Rattle.grammar.specs.Tokens.{Tok, Step, over, took, refused, token, trimme
 use Rattle.grammar.specs.Reader.{Maker, Bracket, a-term, a-type, wanted, Turn, go, done, stop, opened, made, made-type, turn, Outcome, refused-at, reading, read}
 use Rattle.grammar.specs.TableMaker.{into-tables}
 use Rattle.grammar.specs.TermTokens.{toks, depth}
-use Rattle.grammar.specs.Renders.{spelling, Fits, Written, space, Renders}
+use Rattle.grammar.specs.Renders.{spelling, Written, space, Renders}
 use Rattle.grammar.specs.Theorems.{outcome-within}
-use Rattle.grammar.specs.Refusals.{width, end-at, Alike, Begins, fault-of, Lacking, As-few, More, Stands, Fault-at, Rightly, Refuses-rightly}
-use Rattle.grammar.proofs.Grow.{grow, drive}
+use Rattle.grammar.specs.Refusals.{width, end-at, Alike, Begins, Up-to, fault-of, given, Means, Rightly, Refuses-rightly}
 use Rattle.grammar.proofs.Driven.{driven}
 use Rattle.grammar.proofs.Found.{finds}
 use Rattle.grammar.proofs.Lexed.{Right, right}
 use Rattle.grammar.proofs.Spelt.{Spells, end, next, spells}
 use Rattle.grammar.proofs.Laid.{emitted}
-use Rattle.grammar.proofs.Follows.{Good, role, walk, eb, other, wanted-other, good-other, After, turn-after, Kept, walk-after, Still, still, keeps}
-use Rattle.grammar.proofs.Widths.{Lexical, lexical, width-is, Same, Fronts, fronts, Parted, parted, take-past}
-use Rattle.grammar.proofs.Halts.{Before, start, Instead, run-instead, fits-instead, before-instead, joins, before-more, none-over, parts, Passed, Halt, Halted, halts}
-use Rattle.grammar.proofs.Completes.{any, Open, Told, Plain, spaced, spaced-written, Completes, completed, given, given-type, completes}
+use Rattle.grammar.proofs.Follows.{Good, walk, eb, other, wanted-other, good-other, After, turn-after, Kept, walk-after, Still, still, keeps}
+use Rattle.grammar.proofs.Widths.{Lexical, lexical, width-is, Same, Fronts, fronts, parted, take-past}
+use Rattle.grammar.proofs.Halts.{Before, start, Instead, run-instead, fits-instead, before-instead, joins, before-more, none-over, parts, Halt, Halted, halts}
+use Rattle.grammar.proofs.Completes.{any, Open, Told, spaced, spaced-written, Completes, completed, given as taken, given-type, completes}
 use Rattle.grammar.proofs.Past.{Live, give-live, give-type-live, past}
-use Rattle.grammar.proofs.Walks.{walk-stop, walk-append, no-go, no-stop, drive-walk, walk-drive, Full, wider, widens, Can, free, frees}
+use Rattle.grammar.proofs.Walks.{walk-stop, walk-append, no-go, no-stop, drive-walk, walk-drive, wider, widens, Can, free, frees}
 
 -- ---- what begins the text of a term
 
@@ -80,6 +77,16 @@ module _ (types terms opens : ℕ) (bs pre rest : List ℕ) (ts : List Tok) (b :
 
   abbrev Halt′ : Turn Tables ℕ ℕ → Step → Fault → Type 0
   Halt′ = Halt m opens (length bs)
+
+  -- what is out of bounds for a fault: no term where it is of the text, else one that takes more rows than there are
+  abbrev Lacking : Fault → Term → Type 0
+  Lacking TooLong e = ⊥
+  Lacking BadByte e = ⊥
+  Lacking BadNumber e = ⊥
+  Lacking Misplaced e = ⊥
+  Lacking TooDeep e = opens < depth e
+  Lacking NoTypeRow e = t < length (rows-of e .0)
+  Lacking NoTermRow e = u < length (rows-of e .1)
 
   -- a text that goes on in the same way is not the text of a term for which there is room
   module _ (f : Fault) (at : Turn Tables ℕ ℕ) (walked : walk m opens ts (go empty []) ≡ at) (halt : Halt′ at (token rest) f) where
@@ -186,7 +193,7 @@ module _ (types terms opens : ℕ) (bs pre rest : List ℕ) (ts : List Tok) (b :
         let opens′ = max opens (depth e) in
         refuted t′ u′ opens′ (omega arith) (omega arith) (omega arith) (k t′ u′ opens′ (omega arith) (omega arith) (omega arith)) behind fr e r (omega arith) (omega arith) (omega arith)
 
-  lacking : (f : Fault) (at : Turn Tables ℕ ℕ) → walk m opens ts (go empty []) ≡ at → Halt′ at (token rest) f → (behind : List ℕ) → Fronts rest behind → (e : Term) → Renders (pre ++ behind) e → Lacking 16384 1024 2048 types terms opens bs f e
+  lacking : (f : Fault) (at : Turn Tables ℕ ℕ) → walk m opens ts (go empty []) ≡ at → Halt′ at (token rest) f → (behind : List ℕ) → Fronts rest behind → (e : Term) → Renders (pre ++ behind) e → Lacking f e
   lacking TooLong at w h behind fr e r = never TooLong at w h behind fr e (λ t′ u′ opens′ ht hu ho. tt) r
   lacking BadByte at w h behind fr e r = never BadByte at w h behind fr e (λ t′ u′ opens′ ht hu ho. tt) r
   lacking BadNumber at w h behind fr e r = never BadNumber at w h behind fr e (λ t′ u′ opens′ ht hu ho. tt) r
@@ -235,7 +242,7 @@ module _ (types terms opens : ℕ) (bs pre rest : List ℕ) (ts : List Tok) (b :
     termed : (o : Option (Unit {0} × Unit {0})) (fs : List (Bracket ℕ ℕ)) (d : Told) → d ≡ made o (others fs) → Can o → wanted fs ≡ a-term → Good fs → Completes room d
     termed o fs d e c w g =
         subst (Completes room) (sym (e ∙ ap (λ o. made o (others fs)) c))
-        (given room (others fs) (good-other free fs g) (wanted-other free fs ∙ w))
+        (taken room (others fs) (good-other free fs g) (wanted-other free fs ∙ w))
 
   before : (f : Fault) (at : Turn Tables ℕ ℕ) (st : Step) → walk m opens ts (go empty []) ≡ at → Halt′ at st f → Begins pre
   before f at st w h = begins opens pre ts (λ cs. before-instead (32 ∷ cs) (space-instead rest cs) b) (alive opens (omega arith) f at st w h)
@@ -340,16 +347,10 @@ module _ (types terms opens : ℕ) (bs : List ℕ) (short : length bs ≤ 16384)
     take-end : take (end-at bs p) bs ≡ pre ++ take (width behind) behind
     take-end = ap (take (end-at bs p)) is ∙ take-past pre behind (width behind) (end-at bs p) end-is
 
-    standing : (g : Fault) → Stood types terms opens bs pre behind (halted .tokens) (halted .passed .before) (halted .clear) some g → Stands 16384 1024 2048 types terms opens bs g p
-    standing TooLong a = a
-    standing BadByte a = ap (λ l. fault-of (token l)) drop-is ∙ a
-    standing BadNumber a = ap (λ l. fault-of (token l)) drop-is ∙ a
-    standing Misplaced a = ap (λ l. fault-of (token l)) drop-is ∙ a
-    standing TooDeep a = subst Begins (sym take-end) a
-    standing NoTypeRow a = λ q. subst Begins (sym take-end) a
-    standing NoTermRow a = subst Begins (sym take-end) a
+    abbrev Out : Term → Type 0
+    Out = Lacking types terms opens bs pre behind (halted .tokens) (halted .passed .before) (halted .clear) some f
 
-    alike : (cs : List ℕ) → Alike p bs cs → (e : Term) → Renders cs e → Lacking 16384 1024 2048 types terms opens bs f e
+    alike : (cs : List ℕ) → Alike p bs cs → (e : Term) → Renders cs e → Out e
     alike cs q e r =
         let c = parted pre behind cs (width behind) (end-at bs p) end-is (q .0 ∙ ap (take (end-at bs p)) is) in
         let d = ap width (ap (drop p) (c .split) ∙ drop-at pre (c .behind) p long) in
@@ -370,7 +371,7 @@ module _ (types terms opens : ℕ) (bs : List ℕ) (short : length bs ≤ 16384)
           Still (wider (min types 1024) (min terms 2048) (min types′ 1024) (min terms′ 2048)) by-tables (into-tables (min types′ 1024) (min terms′ 2048)) opens opens′
           (widens (min types 1024) (min terms 2048) (min types′ 1024) (min terms′ 2048) more-types more-terms) ho
 
-      as-few : (g : Fault) → As-few 16384 1024 2048 types terms opens bs g types′ terms′ opens′ → Still″ g
+      as-few : (g : Fault) → given 16384 1024 2048 g types′ terms′ opens′ ≡ given 16384 1024 2048 g types terms opens → Still″ g
       as-few TooLong q = tt
       as-few BadByte q = tt
       as-few BadNumber q = tt
@@ -379,23 +380,23 @@ module _ (types terms opens : ℕ) (bs : List ℕ) (short : length bs ≤ 16384)
       as-few NoTypeRow q = λ o full. full .0 (omega arith)
       as-few NoTermRow q = λ o full. full .0 (omega arith)
 
-      helpless : As-few 16384 1024 2048 types terms opens bs f types′ terms′ opens′ → outcome-within 16384 1024 2048 types′ terms′ opens′ bs ≡ refused-at f p
+      helpless : given 16384 1024 2048 f types′ terms′ opens′ ≡ given 16384 1024 2048 f types terms opens → outcome-within 16384 1024 2048 types′ terms′ opens′ bs ≡ refused-at f p
       helpless few =
           in-bounds types′ terms′ opens′ false (ne-eqb types′ 0 (λ e. omega arith))
           ∙ keeps (wider (min types 1024) (min terms 2048) (min types′ 1024) (min terms′ 2048)) by-tables (into-tables (min types′ 1024) (min terms′ 2048)) opens opens′
           (widens (min types 1024) (min terms 2048) (min types′ 1024) (min terms′ 2048) more-types more-terms) ho (length bs) f p (as-few f few) (suc (length bs)) bs empty [] (tt, (omega arith, omega arith), omega arith) h
 
-      roomier : (k : Fault) → More 16384 1024 2048 types terms opens bs k types′ terms′ opens′
+      roomier : (k : Fault) → given 16384 1024 2048 k types terms opens < given 16384 1024 2048 k types′ terms′ opens′
           → Roomier types terms opens bs pre behind (halted .tokens) (halted .passed .before) (halted .clear) some f (halted .at) (halted .walked) (halted .halt) (min types′ 1024) (min terms′ 2048) opens′ more-types more-terms ho k
-      roomier TooLong r = absurd r
-      roomier BadByte r = absurd r
-      roomier BadNumber r = absurd r
-      roomier Misplaced r = absurd r
+      roomier TooLong r = absurd (omega arith)
+      roomier BadByte r = absurd (omega arith)
+      roomier BadNumber r = absurd (omega arith)
+      roomier Misplaced r = absurd (omega arith)
       roomier TooDeep r = r
-      roomier NoTypeRow r = r .1
+      roomier NoTypeRow r = r
       roomier NoTermRow r = r
 
-      goes-past : More 16384 1024 2048 types terms opens bs f types′ terms′ opens′ → (g : Fault) (q : ℕ) → outcome-within 16384 1024 2048 types′ terms′ opens′ bs ≡ refused-at g q → p < q
+      goes-past : given 16384 1024 2048 f types terms opens < given 16384 1024 2048 f types′ terms′ opens′ → (g : Fault) (q : ℕ) → outcome-within 16384 1024 2048 types′ terms′ opens′ bs ≡ refused-at g q → p < q
       goes-past r g q o =
           let l = ap length is ∙ length-append pre behind in
           let reads : read (into-tables (min types′ 1024) (min terms′ 2048)) opens′ (length bs) bs empty ≡ refused-at g q = sym (in-bounds types′ terms′ opens′ false (ne-eqb types′ 0 (λ e. omega arith))) ∙ o in
@@ -403,35 +404,51 @@ module _ (types terms opens : ℕ) (bs : List ℕ) (short : length bs ≤ 16384)
           let e = halted .place in
           omega arith
 
-    refusal : Fault-at 16384 1024 2048 types terms opens bs f p
-    refusal = record {
+    up-to : Up-to bs p Out
+    up-to = record {
       within = let l = ap length is ∙ length-append pre behind in let q = long in omega arith;
       apart = λ i l.
           let e = ap (λ l. width (drop i l)) is in
           let k = long in
           let h = none-over (halted .passed .before) i (omega arith) in
           omega arith;
-      stands = standing f (stood types terms opens bs pre behind (halted .tokens) (halted .passed .before) (halted .clear) some f (halted .at) (token behind) refl (halted .walked) (halted .halt));
       before = subst Begins (sym (ap (take p) is ∙ take-at pre behind p long)) (before types terms opens bs pre behind (halted .tokens) (halted .passed .before) (halted .clear) some f (halted .at) (token behind) (halted .walked) (halted .halt));
       there = alike;
     }
 
+    means : (g : Fault) → Stood types terms opens bs pre behind (halted .tokens) (halted .passed .before) (halted .clear) some g
+        → Up-to bs p (Lacking types terms opens bs pre behind (halted .tokens) (halted .passed .before) (halted .clear) some g) → Means 16384 1024 2048 types terms opens bs g p
+    means TooLong a o = a
+    means BadByte a o = (ap (λ l. fault-of (token l)) drop-is ∙ a, o)
+    means BadNumber a o = (ap (λ l. fault-of (token l)) drop-is ∙ a, o)
+    means Misplaced a o = (ap (λ l. fault-of (token l)) drop-is ∙ a, o)
+    means TooDeep a o = (λ q. subst Begins (sym take-end) a, o)
+    means NoTypeRow a o = (λ q. subst Begins (sym take-end) a, o)
+    means NoTermRow a o = (λ q. subst Begins (sym take-end) a, o)
+
     read-rightly : Rightly 16384 1024 2048 types terms opens bs f p
-    read-rightly = record { long = λ l. absurd (omega arith); short = λ s. refusal; rows = helpless; past = goes-past }
+    read-rightly = record {
+      long = λ l. absurd (omega arith);
+      short = λ s. means f (stood types terms opens bs pre behind (halted .tokens) (halted .passed .before) (halted .clear) some f (halted .at) (token behind) refl (halted .walked) (halted .halt)) up-to;
+      rows = helpless;
+      past = λ types′ terms′ opens′ q. goes-past types′ terms′ opens′;
+    }
 
   -- no type row is handed over, not even for nat
   rowless : types ≡ 0 → Rightly 16384 1024 2048 types terms opens bs NoTypeRow 0
   rowless none = record {
     long = λ l. absurd (omega arith);
-    short = λ s. record {
-      within = omega arith;
-      apart = λ i l. absurd (omega arith);
-      stands = λ some. absurd (omega arith);
-      before = begins 0 [] [] (λ cs. start) (completes 0 [] tt);
-      there = λ cs q e r. let g = emitted 0 0 e .grows empty in omega arith;
-    };
+    short = λ s. (
+      λ some. absurd (omega arith),
+      record {
+        within = omega arith;
+        apart = λ i l. absurd (omega arith);
+        before = begins 0 [] [] (λ cs. start) (completes 0 [] tt);
+        there = λ cs q e r. let g = emitted 0 0 e .grows empty in omega arith;
+      },
+    );
     rows = λ types′ terms′ opens′ ht hu ho few. in-bounds types′ terms′ opens′ true (eq-eqb types′ 0 (omega arith));
-    past = λ types′ terms′ opens′ ht hu ho r. let some = r .0 in absurd (omega arith);
+    past = λ types′ terms′ opens′ some ht hu ho r. absurd (omega arith);
   }
 
 too-long : (types terms opens : ℕ) (bs : List ℕ) → 16384 < length bs → Rightly 16384 1024 2048 types terms opens bs TooLong 16384
@@ -439,7 +456,7 @@ too-long types terms opens bs h = record {
   long = λ l. (refl, refl);
   short = λ s. absurd (omega arith);
   rows = λ types′ terms′ opens′ ht hu ho few. ap (λ b. cond b (refused-at TooLong 16384) (cond (eqb types′ 0) (refused-at NoTypeRow 0) (read (into-tables (min types′ 1024) (min terms′ 2048)) opens′ (length bs) bs empty))) (lt-ltb 16384 (length bs) h);
-  past = λ types′ terms′ opens′ ht hu ho r. absurd r;
+  past = λ types′ terms′ opens′ some ht hu ho r. absurd (omega arith);
 }
 
 pub refuses-rightly : Refuses-rightly 16384 1024 2048

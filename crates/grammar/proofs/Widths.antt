@@ -1,7 +1,7 @@
 -- What stands at the front of a text, and of another with the same bytes there.
 use mathlib.Core.Path.{_≡_, refl, sym, ap, subst, _∙_}
 use mathlib.Core.Bool.{Bool, true, false, cond}
-use mathlib.Core.List.{List, [], _∷_, _++_, append-assoc}
+use mathlib.Core.List.{List, [], _∷_, _++_}
 use Prim.Native.Nat.{ℕ, zero, suc, _+_, _-_, _≤_, _<_}
 use native.Mathlib.Omega.{arith}
 use lib.ListN.{length, take, drop, length-append, length-drop}
@@ -14,23 +14,20 @@ use Rattle.grammar.specs.declared.fault.Fault.{Fault}
 use Rattle.grammar.specs.declared.fault.Fault.the-variants.{TooLong, BadByte, BadNumber, Misplaced, TooDeep, NoTypeRow, NoTermRow}
 use Rattle.grammar.specs.Bytes.{class, alike, run, value}
 use Rattle.grammar.specs.Tokens.{Tok, Step, over, took, refused, token, begun, numbered, numeral, lawful, lpar, rpar, word, number, name as hash}
-use Rattle.grammar.specs.Runs.{alike-same, run-le}
+use Rattle.grammar.specs.Runs.{run-le, run-more, numbered-rest}
 use Rattle.grammar.specs.Renders.{spelling, Fits}
 use Rattle.grammar.specs.Refusals.{together, width}
 use Rattle.grammar.proofs.Lexed.{all-of, run-append, decimal-digits, Right, right}
 
 -- ---- one text
 
-run-some : (k : Class) (b : ℕ) (bs : List ℕ) → class b ≡ k → run k (b ∷ bs) ≡ suc (run k bs)
-run-some k b bs e = ap (λ t. cond t (suc (run k bs)) 0) (alike-same (class b) k e)
-
 together-some : (k : Class) (b : ℕ) (bs : List ℕ) → class b ≡ k → 0 < together k (b ∷ bs)
 together-some Space b bs e = omega arith
 together-some Open b bs e = omega arith
 together-some Close b bs e = omega arith
 together-some Hash b bs e = omega arith
-together-some Digit b bs e = let r = run-some Digit b bs e in omega arith
-together-some Letter b bs e = let r = run-some Letter b bs e in omega arith
+together-some Digit b bs e = let r = run-more Digit (b ∷ bs) (omega arith) e in omega arith
+together-some Letter b bs e = let r = run-more Letter (b ∷ bs) (omega arith) e in omega arith
 together-some Other b bs e = omega arith
 
 width-some : (b : ℕ) (bs : List ℕ) → 0 < width (b ∷ bs)
@@ -78,19 +75,12 @@ drop-width n bs w cs h e d =
     let b = ap length d ∙ length-drop n bs in
     omega arith
 
-numbered-width : (f : ℕ → Tok) (bs cs : List ℕ) (t : Tok) → numbered f (numeral bs) ≡ took t cs → cs ≡ drop (run Digit bs) bs
-numbered-width f bs cs t = go (lawful (take (run Digit bs) bs))
-  where
-    go : (b : Bool) → numbered f (cond b (Some (value (take (run Digit bs) bs) 0, drop (run Digit bs) bs)) None) ≡ took t cs → cs ≡ drop (run Digit bs) bs
-    go true e = cc
-    go false e = let z : _≡_ {A = ℕ} 0 1 = cc in absurd (omega arith)
-
 begun-rest : (k : Class) (b : ℕ) (bs cs : List ℕ) (t : Tok) → begun k (b ∷ bs) ≡ took t cs → cs ≡ drop (together k (b ∷ bs)) (b ∷ bs)
 begun-rest Space b bs cs t e = let z : _≡_ {A = ℕ} 0 1 = cc in absurd (omega arith)
 begun-rest Open b bs cs t e = cc
 begun-rest Close b bs cs t e = cc
-begun-rest Hash b bs cs t e = numbered-width hash bs cs t e
-begun-rest Digit b bs cs t e = numbered-width number (b ∷ bs) cs t e
+begun-rest Hash b bs cs t e = numbered-rest hash bs cs t e
+begun-rest Digit b bs cs t e = numbered-rest number (b ∷ bs) cs t e
 begun-rest Letter b bs cs t e = cc
 begun-rest Other b bs cs t e = let z : _≡_ {A = ℕ} 0 1 = cc in absurd (omega arith)
 

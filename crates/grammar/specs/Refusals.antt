@@ -43,76 +43,74 @@ Alike p bs cs = (take (end-at bs p) cs ≡ take (end-at bs p) bs) × (end-at cs 
 abbrev pub Begins : List ℕ → Type 0
 Begins bs = (cs : List ℕ) × (e : Term) × Renders (bs ++ 32 ∷ cs) e
 
--- the fault of what is at the front of a text where the text of no term goes on so
+-- a text may be that of a term up to p, and with what stands there only that of a term which is Out of bounds
+pub record Up-to (bs : List ℕ) (p : ℕ) (Out : Term → Type 0) : Type 0 where
+  -- the place is in the text, or its end
+  pub within : p ≤ length bs
+  -- nothing that begins before it goes on past it
+  pub apart : (i : ℕ) → i < p → end-at bs i ≤ p
+  -- the text before it begins the text of a term
+  pub before : Begins (take p bs)
+  -- a text of a term that goes on as this one does there is of one that is Out
+  pub there : (cs : List ℕ) → Alike p bs cs → (e : Term) → Renders cs e → Out e
+
+-- the fault of what stands where it may not: no token at all, or one that is misplaced, as is an early end
 abbrev pub fault-of : Step → Fault
 fault-of over = Misplaced
 fault-of (took t cs) = Misplaced
 fault-of (refused k) = k
 
-module _ (most-bytes most-types most-terms types terms opens : ℕ) (bs : List ℕ) where
-  -- a term wants more rows than there are, of the kind that a fault says is lacking; no term has a fault of the text
-  abbrev pub Lacking : Fault → Term → Type 0
-  Lacking TooLong e = ⊥
-  Lacking BadByte e = ⊥
-  Lacking BadNumber e = ⊥
-  Lacking Misplaced e = ⊥
-  Lacking TooDeep e = opens < depth e
-  Lacking NoTypeRow e = min types most-types < length (rows-of e .0)
-  Lacking NoTermRow e = min terms most-terms < length (rows-of e .1)
+-- a text goes wrong at p, by the fault of what stands there: no text of a term goes on so
+abbrev pub Wrong-at : List ℕ → Fault → ℕ → Type 0
+Wrong-at bs f p = (fault-of (token (drop p bs)) ≡ f) × Up-to bs p (λ e. ⊥)
 
-  -- there are still no more rows of the kind that a fault says is lacking
-  abbrev pub As-few : Fault → ℕ → ℕ → ℕ → Type 0
-  As-few TooLong types′ terms′ opens′ = Unit {0}
-  As-few BadByte types′ terms′ opens′ = Unit {0}
-  As-few BadNumber types′ terms′ opens′ = Unit {0}
-  As-few Misplaced types′ terms′ opens′ = Unit {0}
-  As-few TooDeep types′ terms′ opens′ = opens′ ≡ opens
-  As-few NoTypeRow types′ terms′ opens′ = types′ ≡ types
-  As-few NoTermRow types′ terms′ opens′ = terms′ ≡ terms
+-- of so many type rows, term rows and open rows, those that a fault says are lacking; none for a fault of the text
+abbrev pub kind-of : Fault → ℕ → ℕ → ℕ → ℕ
+kind-of TooLong types terms opens = 0
+kind-of BadByte types terms opens = 0
+kind-of BadNumber types terms opens = 0
+kind-of Misplaced types terms opens = 0
+kind-of TooDeep types terms opens = opens
+kind-of NoTypeRow types terms opens = types
+kind-of NoTermRow types terms opens = terms
 
-  -- there are more of them
-  abbrev pub More : Fault → ℕ → ℕ → ℕ → Type 0
-  More TooLong types′ terms′ opens′ = ⊥
-  More BadByte types′ terms′ opens′ = ⊥
-  More BadNumber types′ terms′ opens′ = ⊥
-  More Misplaced types′ terms′ opens′ = ⊥
-  More TooDeep types′ terms′ opens′ = opens < opens′
-  More NoTypeRow types′ terms′ opens′ = (0 < types) × (min types most-types < min types′ most-types)
-  More NoTermRow types′ terms′ opens′ = min terms most-terms < min terms′ most-terms
+-- and how many of them a term takes
+abbrev pub taken : Fault → Term → ℕ
+taken f e = kind-of f (length (rows-of e .0)) (length (rows-of e .1)) (depth e)
 
-  -- what stands at the place of a fault: that which has the fault, or else a token that may stand there
-  abbrev pub Stands : Fault → ℕ → Type 0
-  Stands TooLong p = ⊥
-  Stands BadByte p = fault-of (token (drop p bs)) ≡ BadByte
-  Stands BadNumber p = fault-of (token (drop p bs)) ≡ BadNumber
-  Stands Misplaced p = fault-of (token (drop p bs)) ≡ Misplaced
-  Stands TooDeep p = Begins (take (end-at bs p) bs)
-  Stands NoTypeRow p = 0 < types → Begins (take (end-at bs p) bs)
-  Stands NoTermRow p = Begins (take (end-at bs p) bs)
+module _ (most-bytes most-types most-terms : ℕ) where
+  -- how many of them there are for a reading
+  abbrev pub given : Fault → ℕ → ℕ → ℕ → ℕ
+  given f types terms opens = kind-of f (min types most-types) (min terms most-terms) opens
 
-  -- a text has a fault at p
-  pub record Fault-at (f : Fault) (p : ℕ) : Type 0 where
-    -- the place is in the text, or its end
-    pub within : p ≤ length bs
-    -- nothing that begins before it goes on past it
-    pub apart : (i : ℕ) → i < p → end-at bs i ≤ p
-    -- the fault is that of what stands there
-    pub stands : Stands f p
-    -- the text before it begins the text of a term
-    pub before : Begins (take p bs)
-    -- with what stands there it is none, or only that of terms for which rows are lacking
-    pub there : (cs : List ℕ) → Alike p bs cs → (e : Term) → Renders cs e → Lacking f e
+  module _ (types terms opens : ℕ) (bs : List ℕ) where
+    -- rows run out at p: a token is there that may stand there (if anything is read: nothing is without a row for nat),
+    -- but every term with such a text takes more of them than there are
+    abbrev pub Out-at : Fault → ℕ → Type 0
+    Out-at f p = (0 < types → Begins (take (end-at bs p) bs)) × Up-to bs p (λ e. given f types terms opens < taken f e)
 
-  -- a text is refused rightly by f at p
-  pub record Rightly (f : Fault) (p : ℕ) : Type 0 where
-    -- a text that is too long is refused as that, at the first byte too many
-    pub long : most-bytes < length bs → (f ≡ TooLong) × (p ≡ most-bytes)
-    -- any other has that fault at that place
-    pub short : length bs ≤ most-bytes → Fault-at f p
-    -- more rows do not help, unless they are of the kind that is lacking
-    pub rows : (types′ terms′ opens′ : ℕ) → types ≤ types′ → terms ≤ terms′ → opens ≤ opens′ → As-few f types′ terms′ opens′ → outcome-within most-bytes most-types most-terms types′ terms′ opens′ bs ≡ refused-at f p
-    -- with more of these, the text is refused only further on, if at all
-    pub past : (types′ terms′ opens′ : ℕ) → types ≤ types′ → terms ≤ terms′ → opens ≤ opens′ → More f types′ terms′ opens′ → (g : Fault) (q : ℕ) → outcome-within most-bytes most-types most-terms types′ terms′ opens′ bs ≡ refused-at g q → p < q
+    -- what a fault at p means for a text that is not too long
+    abbrev pub Means : Fault → ℕ → Type 0
+    Means TooLong p = ⊥
+    Means BadByte p = Wrong-at bs BadByte p
+    Means BadNumber p = Wrong-at bs BadNumber p
+    Means Misplaced p = Wrong-at bs Misplaced p
+    Means TooDeep p = Out-at TooDeep p
+    Means NoTypeRow p = Out-at NoTypeRow p
+    Means NoTermRow p = Out-at NoTermRow p
+
+    -- a text is refused rightly by f at p
+    pub record Rightly (f : Fault) (p : ℕ) : Type 0 where
+      -- a text that is too long is refused as that, at the first byte too many
+      pub long : most-bytes < length bs → (f ≡ TooLong) × (p ≡ most-bytes)
+      -- any other by what its fault means
+      pub short : length bs ≤ most-bytes → Means f p
+      -- more rows do not help, if there are no more of those that are lacking
+      pub rows : (types′ terms′ opens′ : ℕ) → types ≤ types′ → terms ≤ terms′ → opens ≤ opens′ → given f types′ terms′ opens′ ≡ given f types terms opens
+          → outcome-within most-bytes most-types most-terms types′ terms′ opens′ bs ≡ refused-at f p
+      -- with more of those, the text is refused only further on, if at all
+      pub past : (types′ terms′ opens′ : ℕ) → 0 < types → types ≤ types′ → terms ≤ terms′ → opens ≤ opens′ → given f types terms opens < given f types′ terms′ opens′
+          → (g : Fault) (q : ℕ) → outcome-within most-bytes most-types most-terms types′ terms′ opens′ bs ≡ refused-at g q → p < q
 
 -- a text that is refused is refused rightly
 abbrev pub Refuses-rightly : ℕ → ℕ → ℕ → Type 0
@@ -120,18 +118,6 @@ Refuses-rightly most-bytes most-types most-terms =
     (types terms opens : ℕ) (bs : List ℕ) (f : Fault) (p : ℕ)
     → outcome-within most-bytes most-types most-terms types terms opens bs ≡ refused-at f p → Rightly most-bytes most-types most-terms types terms opens bs f p
 
--- the faults of a text itself
-abbrev pub Of-text : Fault → Type 0
-Of-text TooLong = ⊥
-Of-text BadByte = Unit {0}
-Of-text BadNumber = Unit {0}
-Of-text Misplaced = Unit {0}
-Of-text TooDeep = ⊥
-Of-text NoTypeRow = ⊥
-Of-text NoTermRow = ⊥
-
--- a text has one such fault at most, at one place
-abbrev pub Faults-once : ℕ → ℕ → ℕ → Type 0
-Faults-once most-bytes most-types most-terms =
-    (types terms opens : ℕ) (bs : List ℕ) (f g : Fault) (p q : ℕ) → Of-text f → Of-text g
-    → Fault-at most-bytes most-types most-terms types terms opens bs f p → Fault-at most-bytes most-types most-terms types terms opens bs g q → (f ≡ g) × (p ≡ q)
+-- a text goes wrong at one place at most, by one fault
+abbrev pub Wrong-once : Type 0
+Wrong-once = (bs : List ℕ) (f g : Fault) (p q : ℕ) → Wrong-at bs f p → Wrong-at bs g q → (f ≡ g) × (p ≡ q)
