@@ -82,7 +82,7 @@ digit-class b h =
 
 -- ---- runs
 
-all-of : (k : Class) (b : ℕ) (bs : List ℕ) → run k (b ∷ bs) ≡ suc (length bs) → (class b ≡ k) × (run k bs ≡ length bs)
+pub all-of : (k : Class) (b : ℕ) (bs : List ℕ) → run k (b ∷ bs) ≡ suc (length bs) → (class b ≡ k) × (run k bs ≡ length bs)
 all-of k b bs h = go (alike (class b) k) refl h
   where
     go : (t : Bool) → alike (class b) k ≡ t → cond t (suc (run k bs)) 0 ≡ suc (length bs) → (class b ≡ k) × (run k bs ≡ length bs)
@@ -92,7 +92,7 @@ all-of k b bs h = go (alike (class b) k) refl h
 all-more : (k : Class) (b : ℕ) (bs : List ℕ) → class b ≡ k → run k bs ≡ length bs → run k (b ∷ bs) ≡ suc (length bs)
 all-more k b bs c h = ap (λ t. cond t (suc (run k bs)) 0) (alike-same (class b) k c) ∙ ap suc h
 
-run-append : (k : Class) (w cs : List ℕ) → run k w ≡ length w → run k cs ≡ 0 → run k (w ++ cs) ≡ length w
+pub run-append : (k : Class) (w cs : List ℕ) → run k w ≡ length w → run k cs ≡ 0 → run k (w ++ cs) ≡ length w
 run-append k [] cs h z = z
 run-append k (b ∷ w) cs h z = let a = all-of k b w h in ap (λ t. cond t (suc (run k (w ++ cs))) 0) (alike-same (class b) k (a .0)) ∙ ap suc (run-append k w cs (a .1) z)
 
@@ -104,7 +104,7 @@ run-front k (b ∷ bs) = go (alike (class b) k) refl (run-front k bs)
     go true e h = ap (λ t. cond t (suc (run k (take (run k bs) bs))) 0) e ∙ ap suc h
     go false e h = refl
 
-run-after : (k : Class) (bs : List ℕ) → run k (drop (run k bs) bs) ≡ 0
+pub run-after : (k : Class) (bs : List ℕ) → run k (drop (run k bs) bs) ≡ 0
 run-after k [] = refl
 run-after k (b ∷ bs) = go (alike (class b) k) refl (run-after k bs)
   where
@@ -126,6 +126,9 @@ tells = record {
 
 own : Numerals Digits (λ ds. value ds 0)
 own = numerals-by-fold Digits tells (λ n ds. value ds n) (record { empty = λ n. refl; more = λ n c cs h. refl })
+
+pub decimal-digits : (n : ℕ) → n ≤ 999999999 → Digits (decimal n)
+decimal-digits n h = digits-decimal own n (omega arith)
 
 lawful-decimal : (n : ℕ) → n ≤ 999999999 → lawful (decimal n) ≡ true
 lawful-decimal n h = go (decimal n) refl

@@ -7,4 +7,12 @@ pub mod Spelt
 pub mod Any
 pub mod Laid
 pub mod Numbers
+pub mod Follows
+pub mod Widths
+pub mod Halts
+pub mod Completes
+pub mod Walks
+pub mod Past
+pub mod Refusals
+pub mod Once
 pub mod Theorems

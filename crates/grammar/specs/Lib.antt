@@ -8,3 +8,4 @@ pub mod TableMaker
 pub mod TermTokens
 pub mod Renders
 pub mod Theorems
+pub mod Refusals

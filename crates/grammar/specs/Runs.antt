@@ -76,7 +76,7 @@ taking xs k s h is e = e ∙ ap (λ t. begun t xs) is ∙ sym (began xs h)
 -- ---- a token takes at least a byte off the text
 
 -- a number's token leaves what its digits leave
-numbered-rest : (f : ℕ → Tok) (bs cs : List ℕ) (t : Tok) → numbered f (numeral bs) ≡ took t cs → cs ≡ drop (run Digit bs) bs
+pub numbered-rest : (f : ℕ → Tok) (bs cs : List ℕ) (t : Tok) → numbered f (numeral bs) ≡ took t cs → cs ≡ drop (run Digit bs) bs
 numbered-rest f bs cs t = go (lawful (take (run Digit bs) bs))
   where
     go : (b : Bool) → numbered f (cond b (Some (value (take (run Digit bs) bs) 0, drop (run Digit bs) bs)) None) ≡ took t cs → cs ≡ drop (run Digit bs) bs

@@ -1,5 +1,6 @@
 // What the text of a rule is, and what reading one gives, in specs/. Each function here has a theorem for its contract.
 ghost use Rattle.grammar.specs.Theorems.{Reads-exactly, Reads-once};
+ghost use Rattle.grammar.specs.Refusals.{Refuses-rightly, Wrong-once};
 
 mod bytes;
 mod fault;
@@ -25,3 +26,14 @@ pub fn reads_once()
 {
     theory::rows_stand();
 }
+
+// A text that is refused is too long, or it may be that of a term up to the place that is named. There it goes wrong,
+// whatever the rows, or rows of the kind that is named run out, and with more of them it is read further.
+pub fn refuses_rightly()
+    ensures { λ _. ⌜ Refuses-rightly 16384 1024 2048 ⌝ }
+{}
+
+// A text goes wrong at one place at most, by one fault.
+pub fn wrong_once()
+    ensures { λ _. ⌜ Wrong-once ⌝ }
+{}
