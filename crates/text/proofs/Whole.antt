@@ -16,16 +16,18 @@ use Rattle.rows.specs.declared.tables.TermRow.{TermRow}
 use Rattle.rows.specs.Rows.{nat-row}
 use Rattle.rows.specs.Views.{view, room}
 use Rattle.theory.specs.Emit.{Tables, empty}
+use Rattle.grammar.specs.declared.fault.Fault.{Fault}
 use Rattle.grammar.specs.declared.fault.Fault.the-variants.{TooLong, NoTypeRow}
 use Rattle.grammar.specs.Reader as m
 use Rattle.grammar.specs.Reader.{Outcome, reading, read}
 use Rattle.grammar.specs.TableMaker.{into-tables}
 use Rattle.grammar.specs.Theorems.{outcome-within, Readable, Read, Exactly}
+use Rattle.grammar.specs.Refusals.{Rightly}
 use Rattle.text.specs.declared.opens.OpenForm.{OpenForm}
 use Rattle.text.specs.declared.opens.Counts.{Counts}
 use Rattle.text.specs.declared.opens.Refusal.{Refusal}
 use Rattle.text.specs.Brackets.{bracket, brackets, rows-of, Tabled, Answers}
-use Rattle.text.specs.Reads.{outcome, answer, counted, made, padded, zero-type, zero-term, take-padded, Filled, Ruled}
+use Rattle.text.specs.Reads.{outcome, answer, counted, made, padded, zero-type, zero-term, take-padded, Filled, Ruled, Faulted}
 
 -- ---- the reading that the code begins
 
@@ -112,3 +114,8 @@ ruled (m.accepted s y) r t u types terms os bs a b c lt lu h =
     (subst (λ (q : ℕ × ℕ × Tables). Read 16384 1024 2048 (q .0) (q .1) (length os) bs (q .2)) (λ i. (sym lt i, sym lu i, (first i, second i))) h)
 ruled (m.refused-at f p) r t u types terms os bs a b c lt lu h =
     subst (λ q. Ruled q types terms os bs) (sym a) (λ e q. h e (subst (λ (n : ℕ × ℕ). Readable 16384 1024 2048 (n .0) (n .1) (length os) bs e) (λ i. (lt i, lu i)) q))
+
+pub faulted : (o : Outcome Tables ℕ) (r : Result Counts Refusal) (types : List TypeRow) (terms : List TermRow) (os : List OpenForm) (bs : List ℕ)
+    → r ≡ answer o → ((f : Fault) (p : ℕ) → o ≡ m.refused-at f p → Rightly 16384 1024 2048 (length types) (length terms) (length os) bs f p) → Faulted r types terms os bs
+faulted (m.accepted s y) r types terms os bs a h = subst (λ q. Faulted q types terms os bs) (sym a) tt
+faulted (m.refused-at f p) r types terms os bs a h = subst (λ q. Faulted q types terms os bs) (sym a) (h f p refl)

@@ -14,6 +14,7 @@ use Rattle.theory.specs.Syntax.{Term}
 use Rattle.theory.specs.Emit.{Tables}
 use Rattle.grammar.specs.Reader.{Outcome, accepted, refused-at}
 use Rattle.grammar.specs.Theorems.{outcome-within, Readable, Read}
+use Rattle.grammar.specs.Refusals.{Rightly}
 use Rattle.text.specs.declared.opens.OpenForm.{OpenForm}
 use Rattle.text.specs.declared.opens.Counts.{Counts}
 use Rattle.text.specs.declared.opens.Refusal.{Refusal}
@@ -64,3 +65,8 @@ pub record Filled (r : Result Counts Refusal) (types : List TypeRow) (terms : Li
 abbrev pub Ruled : Result Counts Refusal → List TypeRow → List TermRow → List OpenForm → List ℕ → Type 0
 Ruled (Ok n) types terms opens bs = Read 16384 1024 2048 (length types) (length terms) (length opens) bs (take (n .types) types, take (n .terms) terms)
 Ruled (Err f) types terms opens bs = (e : Term) → Readable 16384 1024 2048 (length types) (length terms) (length opens) bs e → ⊥
+
+-- and what is refused is refused rightly: too long, or read as far as the place named, and there wrong or out of rows
+abbrev pub Faulted : Result Counts Refusal → List TypeRow → List TermRow → List OpenForm → List ℕ → Type 0
+Faulted (Ok n) types terms opens bs = Unit {0}
+Faulted (Err f) types terms opens bs = Rightly 16384 1024 2048 (length types) (length terms) (length opens) bs (f .fault) (f .place)

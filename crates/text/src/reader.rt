@@ -7,7 +7,7 @@ ghost use Rattle.theory.specs.Emit.{Tables};
 ghost use Rattle.grammar.specs.Tokens.{token as «token-of», trimmed};
 ghost use Rattle.grammar.specs.Reader.{ended};
 ghost use Rattle.text.specs.Brackets.{«rows-of», Tabled, Answers, Goes, left};
-ghost use Rattle.text.specs.Reads.{outcome, answer as «answer-of», counted, made as «made-of», «zero-type», «zero-term», padded, Filled, Ruled};
+ghost use Rattle.text.specs.Reads.{outcome, answer as «answer-of», counted, made as «made-of», «zero-type», «zero-term», padded, Filled, Ruled, Faulted};
 use crate::lexer;
 use crate::opens::Counts;
 use crate::opens::Next;
@@ -172,8 +172,10 @@ pub fn read(
     ensures type_rows { λ _. ⌜ now (types .exit) ≡ padded «zero-type» (length (now (types .entry))) («made-of» (outcome (now (types .entry)) (now (terms .entry)) (now (opens .entry)) (now (text .entry))) .0) ⌝ }
     ensures term_rows { λ _. ⌜ now (terms .exit) ≡ padded «zero-term» (length (now (terms .entry))) («made-of» (outcome (now (types .entry)) (now (terms .entry)) (now (opens .entry)) (now (text .entry))) .1) ⌝ }
     ensures rule { λ r. ⌜ Ruled r (now (types .exit)) (now (terms .exit)) (now (opens .entry)) (now (text .entry)) ⌝ }
+    ensures fault { λ r. ⌜ Faulted r (now (types .entry)) (now (terms .entry)) (now (opens .entry)) (now (text .entry)) ⌝ }
 {
     grammar::reads_exactly();
+    grammar::refuses_rightly();
     let answer = fill(text, types, terms, opens);
     let (made_types, made_terms) = made_by(answer);
     clear_rest(types, made_types, TypeRow::ZERO);

@@ -3,7 +3,7 @@ use Prim.Native.Nat.{ℕ}
 use native.Mathlib.Omega.{arith}
 use lib.ListN.{length}
 use Rattle.text.specs.Reads.{outcome, zero-type, zero-term}
-use Rattle.text.proofs.Whole.{type-count, term-count, cleared, ruled}
+use Rattle.text.proofs.Whole.{type-count, term-count, cleared, ruled, faulted}
 use Rattle.text.proofs.reader.read.Needs as need
 
 pub clear-rest-requires : need.clear-rest-requires
@@ -34,4 +34,6 @@ returns c =
       term-rows = terms;
       rule = ruled o (c .fill-answer .result) (length (c .args .types .now)) (length (c .args .terms .now)) (c .clear-rest .last .rows) (c .clear-rest-2 .last .rows) (c .args .opens .now) (c .args .text .now) (filled .answers) types terms (omega arith) (omega arith)
           (c .reads-exactly .ensures (length (c .args .types .now)) (length (c .args .terms .now)) (length (c .args .opens .now)) (c .args .text .now));
+      fault = faulted o (c .fill-answer .result) (c .args .types .now) (c .args .terms .now) (c .args .opens .now) (c .args .text .now) (filled .answers)
+          (c .refuses-rightly .ensures (length (c .args .types .now)) (length (c .args .terms .now)) (length (c .args .opens .now)) (c .args .text .now));
     }
