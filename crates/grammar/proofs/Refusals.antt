@@ -2,11 +2,11 @@
 use mathlib.Core.Path.{_≡_, refl, sym, ap, subst, _∙_}
 use mathlib.Core.Bool.{Bool, true, false, cond}
 use mathlib.Core.Logic.{⊎-elim}
-use mathlib.Core.List.{List, [], _∷_, _++_}
+use mathlib.Core.List.{List, [], _∷_, _++_, append-assoc}
 use Prim.Native.Nat.{ℕ, suc, _+_, _-_, min, max, _≤_, _<_}
 use native.Mathlib.Omega.{arith}
 use lib.Dec.{ltb, eqb}
-use lib.ListN.{length, take, drop, length-append}
+use lib.ListN.{length, take, drop, length-append, length-take}
 use borrow.Author.Tests.{ltb-true, ltb-false, eqb-true, eqb-false, lt-ltb, le-ltb, eq-eqb, ne-eqb}
 use Rattle.std.specs.declared.option.Option.{Option}
 use Rattle.std.proofs.str.Laws.{order}
@@ -30,10 +30,10 @@ use Rattle.grammar.proofs.Lexed.{Right, right}
 use Rattle.grammar.proofs.Spelt.{Spells, end, next, spells}
 use Rattle.grammar.proofs.Laid.{emitted}
 use Rattle.grammar.proofs.Follows.{Good, walk, eb, other, wanted-other, good-other, After, turn-after, Kept, walk-after, Still, still, keeps}
-use Rattle.grammar.proofs.Widths.{Lexical, lexical, width-is, Same, Fronts, fronts, parted, take-past}
+use Rattle.grammar.proofs.Widths.{Lexical, lexical, width-is, token-some, Same, Fronts, fronts, parted, take-past}
 use Rattle.grammar.proofs.Halts.{Before, start, Instead, run-instead, fits-instead, before-instead, joins, before-more, none-over, parts, Halt, Halted, halts}
 use Rattle.grammar.proofs.Completes.{any, Open, Told, spaced, spaced-written, Completes, completed, given as taken, given-type, completes}
-use Rattle.grammar.proofs.Past.{Live, give-live, give-type-live, past}
+use Rattle.grammar.proofs.Past.{Live, give-live, give-type-live, reached}
 use Rattle.grammar.proofs.Walks.{walk-stop, walk-append, no-go, no-stop, drive-walk, walk-drive, wider, widens, Can, free, frees}
 
 -- ---- what begins the text of a term
@@ -171,7 +171,14 @@ module _ (types terms opens : ℕ) (bs pre rest : List ℕ) (ts : List Tok) (b :
           from (go s fs) over e x c = absurd (subst Roomier x r)
           from (go s fs) (took v cs) e x c =
               let a : After′ fs (stop f) (turn m′ opens′ v s (other′ fs)) = subst (λ c. After′ fs c (turn m′ opens′ v s (other′ fs))) x (turn-after (wider t u t′ u′) m m′ opens opens′ (widens t u t′ u′ ht hu) ho v s fs (c .1)) in
-              past m′ opens′ (length bs) g q rest v cs clear e l s (other′ fs) (lively fs (turn m′ opens′ v s (other′ fs)) f r a) b n empty [] (c .0) short h
+              let i = subst (Right rest) e (right rest) in
+              let is : pre ++ rest ≡ (pre ++ spelling v) ++ cs = ap (λ x. pre ++ x) (i .0) ∙ sym (append-assoc pre (spelling v) cs) in
+              let to : walk m′ opens′ (ts ++ v ∷ []) (go empty []) ≡ turn m′ opens′ v s (other′ fs) = walk-append m′ opens′ ts (v ∷ []) (go empty []) ∙ ap (walk m′ opens′ (v ∷ [])) (c .0) in
+              let k = reached m′ opens′ (length bs) g q (before-more v cs (i .1) (subst (λ x. Before x pre ts) (i .0) b)) n empty [] (subst Live (sym to) (lively fs (turn m′ opens′ v s (other′ fs)) f r a)) (subst (λ x. length x < n) is short) (ap (λ x. reading m′ opens′ (length bs) n x empty []) (sym is) ∙ h) in
+              let j = ap length (i .0) ∙ length-append (spelling v) cs in
+              let w = width-is rest cs v e in
+              let z = token-some rest v cs e in
+              omega arith
           from (go s fs) (refused k) e x c = absurd (no-lexical k (lexical rest k e) (subst Roomier x r))
           from (done s y) over e x c = absurd x
           from (done s y) (took v cs) e x c = absurd (subst Roomier x r)
@@ -247,6 +254,11 @@ module _ (types terms opens : ℕ) (bs pre rest : List ℕ) (ts : List Tok) (b :
   before : (f : Fault) (at : Turn Tables ℕ ℕ) (st : Step) → walk m opens ts (go empty []) ≡ at → Halt′ at st f → Begins pre
   before f at st w h = begins opens pre ts (λ cs. before-instead (32 ∷ cs) (space-instead rest cs) b) (alive opens (omega arith) f at st w h)
 
+  lives : (f : Fault) (at : Turn Tables ℕ ℕ) (st : Step) → walk m opens ts (go empty []) ≡ at → Halt′ at st f → Live (walk m opens ts (go empty []))
+  lives f (go s fs) st w h = subst Live (sym w) tt
+  lives f (done s y) st w h = subst Live (sym w) tt
+  lives f (stop k) st w h = absurd h
+
   -- ---- what stands there
 
   abbrev Stood : Fault → Type 0
@@ -308,13 +320,13 @@ module _ (types terms opens : ℕ) (bs pre rest : List ℕ) (ts : List Tok) (b :
 
 -- ---- the theorem
 
-module _ (types terms opens : ℕ) (bs : List ℕ) (short : length bs ≤ 16384) where
-  -- the reading of a text that is not too long, by whether there is a type row
-  in-bounds : (types′ terms′ opens′ : ℕ) (b : Bool) → eqb types′ 0 ≡ b → outcome-within 16384 1024 2048 types′ terms′ opens′ bs ≡ cond b (refused-at NoTypeRow 0) (read (into-tables (min types′ 1024) (min terms′ 2048)) opens′ (length bs) bs empty)
-  in-bounds types′ terms′ opens′ b e =
-      ap (λ b. cond b (refused-at TooLong 16384) (cond (eqb types′ 0) (refused-at NoTypeRow 0) (read (into-tables (min types′ 1024) (min terms′ 2048)) opens′ (length bs) bs empty))) (le-ltb 16384 (length bs) short)
-      ∙ ap (λ b. cond b (refused-at NoTypeRow 0) (read (into-tables (min types′ 1024) (min terms′ 2048)) opens′ (length bs) bs empty)) e
+-- the reading of a text that is not too long, by whether there is a type row
+in-bounds : (types terms opens : ℕ) (bs : List ℕ) → length bs ≤ 16384 → (b : Bool) → eqb types 0 ≡ b → outcome-within 16384 1024 2048 types terms opens bs ≡ cond b (refused-at NoTypeRow 0) (read (into-tables (min types 1024) (min terms 2048)) opens (length bs) bs empty)
+in-bounds types terms opens bs short b e =
+    ap (λ b. cond b (refused-at TooLong 16384) (cond (eqb types 0) (refused-at NoTypeRow 0) (read (into-tables (min types 1024) (min terms 2048)) opens (length bs) bs empty))) (le-ltb 16384 (length bs) short)
+    ∙ ap (λ b. cond b (refused-at NoTypeRow 0) (read (into-tables (min types 1024) (min terms 2048)) opens (length bs) bs empty)) e
 
+module _ (types terms opens : ℕ) (bs : List ℕ) (short : length bs ≤ 16384) where
   -- rows are handed over, and a text is refused as it is read
   module _ (some : 0 < types) (f : Fault) (p : ℕ) (h : read (into-tables (min types 1024) (min terms 2048)) opens (length bs) bs empty ≡ refused-at f p) where
     abbrev by-tables : Maker Tables ℕ ℕ
@@ -382,7 +394,7 @@ module _ (types terms opens : ℕ) (bs : List ℕ) (short : length bs ≤ 16384)
 
       helpless : given 16384 1024 2048 f types′ terms′ opens′ ≡ given 16384 1024 2048 f types terms opens → outcome-within 16384 1024 2048 types′ terms′ opens′ bs ≡ refused-at f p
       helpless few =
-          in-bounds types′ terms′ opens′ false (ne-eqb types′ 0 (λ e. omega arith))
+          in-bounds types′ terms′ opens′ bs short false (ne-eqb types′ 0 (λ e. omega arith))
           ∙ keeps (wider (min types 1024) (min terms 2048) (min types′ 1024) (min terms′ 2048)) by-tables (into-tables (min types′ 1024) (min terms′ 2048)) opens opens′
           (widens (min types 1024) (min terms 2048) (min types′ 1024) (min terms′ 2048) more-types more-terms) ho (length bs) f p (as-few f few) (suc (length bs)) bs empty [] (tt, (omega arith, omega arith), omega arith) h
 
@@ -399,10 +411,21 @@ module _ (types terms opens : ℕ) (bs : List ℕ) (short : length bs ≤ 16384)
       goes-past : given 16384 1024 2048 f types terms opens < given 16384 1024 2048 f types′ terms′ opens′ → (g : Fault) (q : ℕ) → outcome-within 16384 1024 2048 types′ terms′ opens′ bs ≡ refused-at g q → p < q
       goes-past r g q o =
           let l = ap length is ∙ length-append pre behind in
-          let reads : read (into-tables (min types′ 1024) (min terms′ 2048)) opens′ (length bs) bs empty ≡ refused-at g q = sym (in-bounds types′ terms′ opens′ false (ne-eqb types′ 0 (λ e. omega arith))) ∙ o in
+          let reads : read (into-tables (min types′ 1024) (min terms′ 2048)) opens′ (length bs) bs empty ≡ refused-at g q = sym (in-bounds types′ terms′ opens′ bs short false (ne-eqb types′ 0 (λ e. omega arith))) ∙ o in
           let k = further types terms opens bs pre behind (halted .tokens) (halted .passed .before) (halted .clear) some f (halted .at) (halted .walked) (halted .halt) (min types′ 1024) (min terms′ 2048) opens′ more-types more-terms ho (roomier f r) g q (omega arith) (suc (length bs)) (let e = ap length is in omega arith) (ap (λ l. reading (into-tables (min types′ 1024) (min terms′ 2048)) opens′ (length bs) (suc (length bs)) l empty []) (sym is) ∙ reads) in
           let e = halted .place in
           omega arith
+
+    reaches : (cs : List ℕ) → length (take p bs ++ 32 ∷ cs) ≤ 16384 → (g : Fault) (q : ℕ) → outcome-within 16384 1024 2048 types terms opens (take p bs ++ 32 ∷ cs) ≡ refused-at g q → p ≤ q
+    reaches cs l g q o =
+        let to : take p bs ≡ pre = ap (take p) is ∙ take-at pre behind p long in
+        let fits : length (pre ++ 32 ∷ cs) ≤ 16384 = subst (λ x. length (x ++ 32 ∷ cs) ≤ 16384) to l in
+        let reads : read by-tables opens (length (pre ++ 32 ∷ cs)) (pre ++ 32 ∷ cs) empty ≡ refused-at g q = sym (in-bounds types terms opens (pre ++ 32 ∷ cs) fits false (ne-eqb types 0 (λ e. omega arith))) ∙ ap (λ x. outcome-within 16384 1024 2048 types terms opens (x ++ 32 ∷ cs)) (sym to) ∙ o in
+        let k = reached by-tables opens (length (pre ++ 32 ∷ cs)) g q (before-instead (32 ∷ cs) (space-instead behind cs) (halted .passed .before)) (suc (length (pre ++ 32 ∷ cs))) empty []
+        (lives types terms opens bs pre behind (halted .tokens) (halted .passed .before) (halted .clear) some f (halted .at) (token behind) (halted .walked) (halted .halt)) (omega arith) reads in
+        let n = length-append pre (32 ∷ cs) in
+        let e = long in
+        omega arith
 
     up-to : Up-to bs p Out
     up-to = record {
@@ -430,6 +453,7 @@ module _ (types terms opens : ℕ) (bs : List ℕ) (short : length bs ≤ 16384)
     read-rightly = record {
       long = λ l. absurd (omega arith);
       short = λ s. means f (stood types terms opens bs pre behind (halted .tokens) (halted .passed .before) (halted .clear) some f (halted .at) (token behind) refl (halted .walked) (halted .halt)) up-to;
+      reached = reaches;
       rows = helpless;
       past = λ types′ terms′ opens′ q. goes-past types′ terms′ opens′;
     }
@@ -447,7 +471,8 @@ module _ (types terms opens : ℕ) (bs : List ℕ) (short : length bs ≤ 16384)
         there = λ cs q e r. let g = emitted 0 0 e .grows empty in omega arith;
       },
     );
-    rows = λ types′ terms′ opens′ ht hu ho few. in-bounds types′ terms′ opens′ true (eq-eqb types′ 0 (omega arith));
+    reached = λ cs l g q o. omega arith;
+    rows = λ types′ terms′ opens′ ht hu ho few. in-bounds types′ terms′ opens′ bs short true (eq-eqb types′ 0 (omega arith));
     past = λ types′ terms′ opens′ some ht hu ho r. absurd (omega arith);
   }
 
@@ -455,6 +480,10 @@ too-long : (types terms opens : ℕ) (bs : List ℕ) → 16384 < length bs → R
 too-long types terms opens bs h = record {
   long = λ l. (refl, refl);
   short = λ s. absurd (omega arith);
+  reached = λ cs l g q o.
+      let n = length-append (take 16384 bs) (32 ∷ cs) in
+      let k = length-take 16384 bs in
+      absurd (omega arith);
   rows = λ types′ terms′ opens′ ht hu ho few. ap (λ b. cond b (refused-at TooLong 16384) (cond (eqb types′ 0) (refused-at NoTypeRow 0) (read (into-tables (min types′ 1024) (min terms′ 2048)) opens′ (length bs) bs empty))) (lt-ltb 16384 (length bs) h);
   past = λ types′ terms′ opens′ some ht hu ho r. absurd (omega arith);
 }

@@ -105,6 +105,8 @@ module _ (most-bytes most-types most-terms : ℕ) where
       pub long : most-bytes < length bs → (f ≡ TooLong) × (p ≡ most-bytes)
       -- any other by what its fault means
       pub short : length bs ≤ most-bytes → Means f p
+      -- the rows suffice up to there: whatever follows, behind a space, is not refused before
+      pub reached : (cs : List ℕ) → length (take p bs ++ 32 ∷ cs) ≤ most-bytes → (g : Fault) (q : ℕ) → outcome-within most-bytes most-types most-terms types terms opens (take p bs ++ 32 ∷ cs) ≡ refused-at g q → p ≤ q
       -- more rows do not help, if there are no more of those that are lacking
       pub rows : (types′ terms′ opens′ : ℕ) → types ≤ types′ → terms ≤ terms′ → opens ≤ opens′ → given f types′ terms′ opens′ ≡ given f types terms opens
           → outcome-within most-bytes most-types most-terms types′ terms′ opens′ bs ≡ refused-at f p
