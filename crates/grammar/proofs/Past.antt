@@ -1,5 +1,5 @@
--- A reading that takes a token is refused behind it, if at all.
-use mathlib.Core.Path.{_≡_, sym, ap, subst, _∙_}
+-- A reading that takes some tokens is refused behind them, if at all.
+use mathlib.Core.Path.{_≡_, refl, sym, ap, subst, _∙_}
 use mathlib.Core.Bool.{Bool, true, false, cond}
 use mathlib.Core.List.{List, [], _∷_, _++_, append-assoc}
 use Prim.Native.Nat.{ℕ, zero, suc, _-_, _≤_, _<_}
@@ -73,54 +73,39 @@ module _ {S X Y : Type 0} (m : Maker S X Y) (room long : ℕ) (g : Fault) (q : �
       let e = a .place in
       omega arith
 
-  at-end : (cs : List ℕ) (s : S) (y : Y) (st : Step) → ended (place m room long cs) s y st ≡ refused-at g q → long - length cs ≤ q
+  at-end : (cs : List ℕ) (s : S) (y : Y) (st : Step) → ended (place m room long cs) s y st ≡ refused-at g q → long - length (trimmed cs) ≤ q
   at-end cs s y over h = let z : _≡_ {A = ℕ} 0 1 = cc in absurd (omega arith)
-  at-end cs s y (took t ds) h =
-      let e = place-is Misplaced (place m room long cs) h in
-      let k = length-drop (run Space cs) cs in
-      omega arith
-  at-end cs s y (refused j) h =
-      let e = place-is j (place m room long cs) h in
-      let k = length-drop (run Space cs) cs in
-      omega arith
+  at-end cs s y (took t ds) h = let e = place-is Misplaced (place m room long cs) h in omega arith
+  at-end cs s y (refused j) h = let e = place-is j (place m room long cs) h in omega arith
 
-  module _ (rest : List ℕ) (v : Tok) (cs : List ℕ) (clear : run Space rest ≡ 0) (is : token rest ≡ took v cs) (in-text : length rest ≤ long) (s₁ : S) (fs₁ : List (Bracket X Y)) (live : Live (turn m room v s₁ fs₁)) where
-    found : token (trimmed rest) ≡ took v cs
-    found = ap (λ n. token (drop n rest)) clear ∙ is
+  -- nothing but spaces
+  all-spaces : {rest bs : List ℕ} {ts : List Tok} → Before rest bs ts → ts ≡ [] → trimmed (bs ++ rest) ≡ trimmed rest
+  all-spaces start e = refl
+  all-spaces (space b) e = all-spaces b e
+  all-spaces (next h f b) e = let z : _≡_ {A = ℕ} 0 1 = cc in absurd (omega arith)
 
-    behind : (n at : ℕ) (d : Turn S X Y) → length rest ≤ n → Live d → after-turn m room long (reading m room long n) at cs d ≡ refused-at g q → long - length rest < q
-    behind n at (go s fs) l a h =
-        let k = shorter rest cs v found in
-        let e = not-before n cs s fs (omega arith) h in
-        omega arith
-    behind n at (done s y) l a h =
-        let k = shorter rest cs v found in
-        let e = at-end cs s y (token (trimmed cs)) h in
-        omega arith
-    behind n at (stop j) l a h = absurd a
+  -- a reading that takes some tokens is not refused before their end
+  pub reached : {rest pre : List ℕ} {ts : List Tok} → Before rest pre ts → (n : ℕ) (s : S) (fs : List (Bracket X Y)) → Live (walk m room ts (go s fs)) → length (pre ++ rest) < n → reading m room long n (pre ++ rest) s fs ≡ refused-at g q → long - length rest ≤ q
+  reached {rest} start n s fs a l h = not-before n rest s fs l h
+  reached (space b) zero s fs a l h = absurd (omega arith)
+  reached (space b) (suc n) s fs a l h = reached b (suc n) s fs a (omega arith) h
+  reached (next e f b) zero s fs a l h = absurd (omega arith)
+  reached {rest} {pre} (next {cs = ds} {t = t} {ts = ts} e f b) (suc n) s fs a l h =
+      let to : pre ++ rest ≡ spelling t ++ (ds ++ rest) = ap (λ x. x ++ rest) e ∙ append-assoc (spelling t) ds rest in
+      let takes : token (trimmed (pre ++ rest)) ≡ took t (ds ++ rest) = ap (λ x. token (trimmed x)) to ∙ ap (λ k. token (drop k (spelling t ++ (ds ++ rest)))) (unspaced (ds ++ rest) t f) ∙ token-is (ds ++ rest) t f in
+      let less = shorter (pre ++ rest) (ds ++ rest) t takes in
+      by (turn m room t s fs) a (λ s fs a h. reached b n s fs a (omega arith) h) (sym (ap (λ st. after-token m room long (reading m room long n) (place m room long (pre ++ rest)) st s fs) takes) ∙ h)
+    where
+      ending : (us : List Tok) → ts ≡ us → (s : S) (y : Y) → Live (walk m room us (done s y)) → ended (place m room long (ds ++ rest)) s y (token (trimmed (ds ++ rest))) ≡ refused-at g q → long - length rest ≤ q
+      ending [] e s y a h =
+          let k = at-end (ds ++ rest) s y (token (trimmed (ds ++ rest))) h in
+          let j = ap length (all-spaces b e) in
+          let i = length-drop (run Space rest) rest in
+          omega arith
+      ending (u ∷ us) e s y a h = absurd a
 
-    pub past : {pre : List ℕ} {ts : List Tok} → Before rest pre ts → (n : ℕ) (s : S) (fs : List (Bracket X Y)) → walk m room ts (go s fs) ≡ go s₁ fs₁ → length (pre ++ rest) < n → reading m room long n (pre ++ rest) s fs ≡ refused-at g q → long - length rest < q
-    past start zero s fs w l h = absurd (omega arith)
-    past start (suc n) s fs w l h =
-        let a : s₁ ≡ s = cc in
-        let b : fs₁ ≡ fs = cc in
-        let live′ : Live (turn m room v s fs) = subst (λ (p : S × List (Bracket X Y)). Live (turn m room v (p .0) (p .1))) (λ i. (a i, b i)) live in
-        behind n (place m room long rest) (turn m room v s fs) (omega arith) live′ (sym (ap (λ st. after-token m room long (reading m room long n) (place m room long rest) st s fs) found) ∙ h)
-    past (space b) zero s fs w l h = absurd (omega arith)
-    past (space b) (suc n) s fs w l h = past b (suc n) s fs w (omega arith) h
-    past (next e f b) zero s fs w l h = absurd (omega arith)
-    past {pre} (next {cs = ds} {t = t} {ts = ts} e f b) (suc n) s fs w l h =
-        let to : pre ++ rest ≡ spelling t ++ (ds ++ rest) = ap (λ x. x ++ rest) e ∙ append-assoc (spelling t) ds rest in
-        let takes : token (trimmed (pre ++ rest)) ≡ took t (ds ++ rest) = ap (λ x. token (trimmed x)) to ∙ ap (λ k. token (drop k (spelling t ++ (ds ++ rest)))) (unspaced (ds ++ rest) t f) ∙ token-is (ds ++ rest) t f in
-        let less = shorter (pre ++ rest) (ds ++ rest) t takes in
-        by (turn m room t s fs) w (λ s fs w h. past b n s fs w (omega arith) h) (sym (ap (λ st. after-token m room long (reading m room long n) (place m room long (pre ++ rest)) st s fs) takes) ∙ h)
-      where
-        stuck : (us : List Tok) (s : S) (y : Y) → walk m room us (done s y) ≡ go s₁ fs₁ → ⊥
-        stuck [] s y w = let z : _≡_ {A = ℕ} 0 1 = cc in omega arith
-        stuck (u ∷ us) s y w = let z : _≡_ {A = ℕ} 0 1 = cc in omega arith
-
-        by : (d : Turn S X Y) → walk m room ts d ≡ go s₁ fs₁ → ((s : S) (fs : List (Bracket X Y)) → walk m room ts (go s fs) ≡ go s₁ fs₁ → reading m room long n (ds ++ rest) s fs ≡ refused-at g q → long - length rest < q)
-            → after-turn m room long (reading m room long n) (place m room long (pre ++ rest)) (ds ++ rest) d ≡ refused-at g q → long - length rest < q
-        by (go s fs) w ih h = ih s fs w h
-        by (done s y) w ih h = absurd (stuck ts s y w)
-        by (stop j) w ih h = let e = sym (walk-stop m room ts j) ∙ w in let z : _≡_ {A = ℕ} 0 1 = cc in absurd (omega arith)
+      by : (d : Turn S X Y) → Live (walk m room ts d) → ((s : S) (fs : List (Bracket X Y)) → Live (walk m room ts (go s fs)) → reading m room long n (ds ++ rest) s fs ≡ refused-at g q → long - length rest ≤ q)
+          → after-turn m room long (reading m room long n) (place m room long (pre ++ rest)) (ds ++ rest) d ≡ refused-at g q → long - length rest ≤ q
+      by (go s fs) a ih h = ih s fs a h
+      by (done s y) a ih h = ending ts refl s y a h
+      by (stop j) a ih h = absurd (subst Live (walk-stop m room ts j) a)

@@ -2,11 +2,11 @@
 use mathlib.Core.Path.{_≡_, refl, sym, ap, subst, _∙_}
 use mathlib.Core.Bool.{Bool, true, false, cond}
 use mathlib.Core.Logic.{⊎-elim}
-use mathlib.Core.List.{List, [], _∷_, _++_}
+use mathlib.Core.List.{List, [], _∷_, _++_, append-assoc}
 use Prim.Native.Nat.{ℕ, suc, _+_, _-_, min, max, _≤_, _<_}
 use native.Mathlib.Omega.{arith}
 use lib.Dec.{ltb, eqb}
-use lib.ListN.{length, take, drop, length-append}
+use lib.ListN.{length, take, drop, length-append, length-take}
 use borrow.Author.Tests.{ltb-true, ltb-false, eqb-true, eqb-false, lt-ltb, le-ltb, eq-eqb, ne-eqb}
 use Rattle.std.specs.declared.option.Option.{Option}
 use Rattle.std.proofs.str.Laws.{order}
@@ -30,10 +30,10 @@ use Rattle.grammar.proofs.Lexed.{Right, right}
 use Rattle.grammar.proofs.Spelt.{Spells, end, next, spells}
 use Rattle.grammar.proofs.Laid.{emitted}
 use Rattle.grammar.proofs.Follows.{Good, walk, eb, other, wanted-other, good-other, After, turn-after, Kept, walk-after, Still, still, keeps}
-use Rattle.grammar.proofs.Widths.{Lexical, lexical, width-is, Same, Fronts, fronts, parted, take-past}
+use Rattle.grammar.proofs.Widths.{Lexical, lexical, width-is, token-some, Same, Fronts, fronts, parted, take-past}
 use Rattle.grammar.proofs.Halts.{Before, start, Instead, run-instead, fits-instead, before-instead, joins, before-more, none-over, parts, Halt, Halted, halts}
 use Rattle.grammar.proofs.Completes.{any, Open, Told, spaced, spaced-written, Completes, completed, given as taken, given-type, completes}
-use Rattle.grammar.proofs.Past.{Live, give-live, give-type-live, past}
+use Rattle.grammar.proofs.Past.{Live, give-live, give-type-live, reached}
 use Rattle.grammar.proofs.Walks.{walk-stop, walk-append, no-go, no-stop, drive-walk, walk-drive, wider, widens, Can, free, frees}
 
 -- ---- what begins the text of a term
@@ -64,8 +64,14 @@ not-left : (bs : List ℕ) (vs : List Tok) (k : Fault) → token (trimmed bs) �
 not-left bs vs k h (end e) = let z : _≡_ {A = ℕ} 0 1 = cc in omega arith
 not-left bs vs k h (next e s) = let z : _≡_ {A = ℕ} 0 1 = cc in omega arith
 
--- a reading of tables that halts at a place
-module _ (types terms opens : ℕ) (bs pre rest : List ℕ) (ts : List Tok) (b : Before rest pre ts) (clear : run Space rest ≡ 0) (some : 0 < types) where
+-- the reading of a text that is not too long, by whether there is a type row
+in-bounds : (types terms opens : ℕ) (bs : List ℕ) → length bs ≤ 16384 → (b : Bool) → eqb types 0 ≡ b → outcome-within 16384 1024 2048 types terms opens bs ≡ cond b (refused-at NoTypeRow 0) (read (into-tables (min types 1024) (min terms 2048)) opens (length bs) bs empty)
+in-bounds types terms opens bs short b e =
+    ap (λ b. cond b (refused-at TooLong 16384) (cond (eqb types 0) (refused-at NoTypeRow 0) (read (into-tables (min types 1024) (min terms 2048)) opens (length bs) bs empty))) (le-ltb 16384 (length bs) short)
+    ∙ ap (λ b. cond b (refused-at NoTypeRow 0) (read (into-tables (min types 1024) (min terms 2048)) opens (length bs) bs empty)) e
+
+-- rows are handed over, and a text is refused as it is read
+module _ (types terms opens : ℕ) (bs : List ℕ) (short : length bs ≤ 16384) (some : 0 < types) (f : Fault) (p : ℕ) (h : read (into-tables (min types 1024) (min terms 2048)) opens (length bs) bs empty ≡ refused-at f p) where
   abbrev t : ℕ
   t = min types 1024
 
@@ -74,6 +80,21 @@ module _ (types terms opens : ℕ) (bs pre rest : List ℕ) (ts : List Tok) (b :
 
   abbrev m : Maker Tables ℕ ℕ
   m = into-tables t u
+
+  halted : Halted m opens (length bs) bs empty [] f p
+  halted = halts m opens (length bs) (suc (length bs)) bs empty [] f p (omega arith) h
+
+  abbrev pre : List ℕ
+  pre = halted .passed .front
+
+  abbrev rest : List ℕ
+  rest = halted .rest
+
+  abbrev ts : List Tok
+  ts = halted .tokens
+
+  b : Before rest pre ts
+  b = halted .passed .before
 
   abbrev Halt′ : Turn Tables ℕ ℕ → Step → Fault → Type 0
   Halt′ = Halt m opens (length bs)
@@ -89,13 +110,13 @@ module _ (types terms opens : ℕ) (bs pre rest : List ℕ) (ts : List Tok) (b :
   Lacking NoTermRow e = u < length (rows-of e .1)
 
   -- a text that goes on in the same way is not the text of a term for which there is room
-  module _ (f : Fault) (at : Turn Tables ℕ ℕ) (walked : walk m opens ts (go empty []) ≡ at) (halt : Halt′ at (token rest) f) where
+  module _ (j : Fault) (halt : Halt′ (halted .at) (token rest) j) where
     module _ (t′ u′ opens′ : ℕ) (ht : t ≤ t′) (hu : u ≤ u′) (ho : opens ≤ opens′) where
       abbrev m′ : Maker Tables ℕ ℕ
       m′ = into-tables t′ u′
 
       abbrev Still′ : Type 0
-      Still′ = Still (wider t u t′ u′) m m′ opens opens′ (widens t u t′ u′ ht hu) ho f
+      Still′ = Still (wider t u t′ u′) m m′ opens opens′ (widens t u t′ u′ ht hu) ho j
 
       abbrev Kept′ : Turn Tables ℕ ℕ → Turn Tables ℕ ℕ → Type 0
       Kept′ = Kept (wider t u t′ u′) m m′ opens opens′ (widens t u t′ u′ ht hu) ho
@@ -108,23 +129,23 @@ module _ (types terms opens : ℕ) (bs pre rest : List ℕ) (ts : List Tok) (b :
 
       module _ (k : Still′) (behind : List ℕ) (fr : Fronts rest behind) (x : Tables) (y : ℕ) (vs : List Tok) (sp : Spells behind vs) where
         lexes : token (trimmed behind) ≡ token behind
-        lexes = ap token (unspaced behind (fr .none Space clear))
+        lexes = ap token (unspaced behind (fr .none Space (halted .clear)))
 
-        by : (a : Turn Tables ℕ ℕ) (st : Step) → Halt′ a st f → Same st (token behind) → (d : Turn Tables ℕ ℕ) → Kept′ a d → walk m′ opens′ vs d ≡ done x y → ⊥
-        by (stop j) st h q d c w = h
+        by : (a : Turn Tables ℕ ℕ) (st : Step) → Halt′ a st j → Same st (token behind) → (d : Turn Tables ℕ ℕ) → Kept′ a d → walk m′ opens′ vs d ≡ done x y → ⊥
+        by (stop i) st h q d c w = h
         by (go s fs) over h q d c w = no-go m′ opens′ s (other′ fs) x y (sym (ap (λ l. walk m′ opens′ l d) (none-left behind vs (lexes ∙ q) sp) ∙ c .0) ∙ w)
         by (go s fs) (took v cs) h q d c w =
             let o = one-left behind (q .0) vs v (lexes ∙ q .1) sp in
-            let a : After′ fs (stop f) (turn m′ opens′ v s (other′ fs)) = subst (λ c. After′ fs c (turn m′ opens′ v s (other′ fs))) h (turn-after (wider t u t′ u′) m m′ opens opens′ (widens t u t′ u′ ht hu) ho v s fs (c .1)) in
-            let e = still (wider t u t′ u′) m m′ opens opens′ (widens t u t′ u′ ht hu) ho fs f (turn m′ opens′ v s (other′ fs)) k a in
-            let is : walk m′ opens′ vs d ≡ stop f = ap (λ l. walk m′ opens′ l d) (o .1) ∙ ap (walk m′ opens′ (v ∷ o .0)) (c .0) ∙ ap (walk m′ opens′ (o .0)) e ∙ walk-stop m′ opens′ (o .0) f in
-            no-stop m′ opens′ f x y (sym is ∙ w)
-        by (go s fs) (refused j) h q d c w = not-left behind vs j (lexes ∙ q) sp
+            let a : After′ fs (stop j) (turn m′ opens′ v s (other′ fs)) = subst (λ c. After′ fs c (turn m′ opens′ v s (other′ fs))) h (turn-after (wider t u t′ u′) m m′ opens opens′ (widens t u t′ u′ ht hu) ho v s fs (c .1)) in
+            let e = still (wider t u t′ u′) m m′ opens opens′ (widens t u t′ u′ ht hu) ho fs j (turn m′ opens′ v s (other′ fs)) k a in
+            let is : walk m′ opens′ vs d ≡ stop j = ap (λ l. walk m′ opens′ l d) (o .1) ∙ ap (walk m′ opens′ (v ∷ o .0)) (c .0) ∙ ap (walk m′ opens′ (o .0)) e ∙ walk-stop m′ opens′ (o .0) j in
+            no-stop m′ opens′ j x y (sym is ∙ w)
+        by (go s fs) (refused i) h q d c w = not-left behind vs i (lexes ∙ q) sp
         by (done s z) over h q d c w = h
         by (done s z) (took v cs) h q d c w =
             let o = one-left behind (q .0) vs v (lexes ∙ q .1) sp in
             no-stop m′ opens′ Misplaced x y (sym (ap (λ l. walk m′ opens′ l d) (o .1) ∙ ap (walk m′ opens′ (v ∷ o .0)) c) ∙ w)
-        by (done s z) (refused j) h q d c w = not-left behind vs j (lexes ∙ q) sp
+        by (done s z) (refused i) h q d c w = not-left behind vs i (lexes ∙ q) sp
 
       -- with more room of the kind that is lacking, a reading goes on behind the place
       abbrev Roomier : Fault → Type 0
@@ -161,17 +182,24 @@ module _ (types terms opens : ℕ) (bs pre rest : List ℕ) (ts : List Tok) (b :
       no-lexical NoTypeRow l r = l
       no-lexical NoTermRow l r = l
 
-      keeping : Kept′ at (walk m′ opens′ ts (go empty []))
-      keeping = subst (λ a. Kept′ a (walk m′ opens′ ts (go empty []))) walked (walk-after (wider t u t′ u′) m m′ opens opens′ (widens t u t′ u′ ht hu) ho ts (go empty []) (go empty []) (refl, (tt, (omega arith, omega arith), omega arith)))
+      keeping : Kept′ (halted .at) (walk m′ opens′ ts (go empty []))
+      keeping = subst (λ a. Kept′ a (walk m′ opens′ ts (go empty []))) (halted .walked) (walk-after (wider t u t′ u′) m m′ opens opens′ (widens t u t′ u′ ht hu) ho ts (go empty []) (go empty []) (refl, (tt, (omega arith, omega arith), omega arith)))
 
-      further : Roomier f → (g : Fault) (q : ℕ) → length rest ≤ length bs → (n : ℕ) → length (pre ++ rest) < n → reading m′ opens′ (length bs) n (pre ++ rest) empty [] ≡ refused-at g q → length bs - length rest < q
-      further r g q l n short h = from at (token rest) refl halt keeping
+      further : Roomier j → (g : Fault) (q : ℕ) → length rest ≤ length bs → (n : ℕ) → length (pre ++ rest) < n → reading m′ opens′ (length bs) n (pre ++ rest) empty [] ≡ refused-at g q → length bs - length rest < q
+      further r g q l n short h = from (halted .at) (token rest) refl halt keeping
         where
-          from : (a : Turn Tables ℕ ℕ) (st : Step) → token rest ≡ st → Halt′ a st f → Kept′ a (walk m′ opens′ ts (go empty [])) → length bs - length rest < q
+          from : (a : Turn Tables ℕ ℕ) (st : Step) → token rest ≡ st → Halt′ a st j → Kept′ a (walk m′ opens′ ts (go empty [])) → length bs - length rest < q
           from (go s fs) over e x c = absurd (subst Roomier x r)
           from (go s fs) (took v cs) e x c =
-              let a : After′ fs (stop f) (turn m′ opens′ v s (other′ fs)) = subst (λ c. After′ fs c (turn m′ opens′ v s (other′ fs))) x (turn-after (wider t u t′ u′) m m′ opens opens′ (widens t u t′ u′ ht hu) ho v s fs (c .1)) in
-              past m′ opens′ (length bs) g q rest v cs clear e l s (other′ fs) (lively fs (turn m′ opens′ v s (other′ fs)) f r a) b n empty [] (c .0) short h
+              let a : After′ fs (stop j) (turn m′ opens′ v s (other′ fs)) = subst (λ c. After′ fs c (turn m′ opens′ v s (other′ fs))) x (turn-after (wider t u t′ u′) m m′ opens opens′ (widens t u t′ u′ ht hu) ho v s fs (c .1)) in
+              let i = subst (Right rest) e (right rest) in
+              let is : pre ++ rest ≡ (pre ++ spelling v) ++ cs = ap (λ x. pre ++ x) (i .0) ∙ sym (append-assoc pre (spelling v) cs) in
+              let to : walk m′ opens′ (ts ++ v ∷ []) (go empty []) ≡ turn m′ opens′ v s (other′ fs) = walk-append m′ opens′ ts (v ∷ []) (go empty []) ∙ ap (walk m′ opens′ (v ∷ [])) (c .0) in
+              let k = reached m′ opens′ (length bs) g q (before-more v cs (i .1) (subst (λ x. Before x pre ts) (i .0) b)) n empty [] (subst Live (sym to) (lively fs (turn m′ opens′ v s (other′ fs)) j r a)) (subst (λ x. length x < n) is short) (ap (λ x. reading m′ opens′ (length bs) n x empty []) (sym is) ∙ h) in
+              let j = ap length (i .0) ∙ length-append (spelling v) cs in
+              let w = width-is rest cs v e in
+              let z = token-some rest v cs e in
+              omega arith
           from (go s fs) (refused k) e x c = absurd (no-lexical k (lexical rest k e) (subst Roomier x r))
           from (done s y) over e x c = absurd x
           from (done s y) (took v cs) e x c = absurd (subst Roomier x r)
@@ -182,7 +210,7 @@ module _ (types terms opens : ℕ) (bs pre rest : List ℕ) (ts : List Tok) (b :
       refuted k behind fr e r et eu eo =
           let q = parts (before-instead behind (record { letters = fr .none Letter; digits = fr .none Digit }) b) (spells r) in
           let w = drive-walk m′ opens′ (toks e) empty [] (emit e empty) (driven m′ opens′ e empty eo ∙ emitted t′ u′ e .gives empty (et, eu)) in
-          by k behind fr (rows-of e) (emit e empty .1) (q .others) (q .spells) at (token rest) halt (fr .same) (walk m′ opens′ ts (go empty [])) keeping
+          by k behind fr (rows-of e) (emit e empty .1) (q .others) (q .spells) (halted .at) (token rest) halt (fr .same) (walk m′ opens′ ts (go empty [])) keeping
           (sym (walk-append m′ opens′ ts (q .others) (go empty [])) ∙ ap (λ l. walk m′ opens′ l (go empty [])) (sym (q .split)) ∙ w)
 
     -- nor of any, where rows do not matter
@@ -193,17 +221,17 @@ module _ (types terms opens : ℕ) (bs pre rest : List ℕ) (ts : List Tok) (b :
         let opens′ = max opens (depth e) in
         refuted t′ u′ opens′ (omega arith) (omega arith) (omega arith) (k t′ u′ opens′ (omega arith) (omega arith) (omega arith)) behind fr e r (omega arith) (omega arith) (omega arith)
 
-  lacking : (f : Fault) (at : Turn Tables ℕ ℕ) → walk m opens ts (go empty []) ≡ at → Halt′ at (token rest) f → (behind : List ℕ) → Fronts rest behind → (e : Term) → Renders (pre ++ behind) e → Lacking f e
-  lacking TooLong at w h behind fr e r = never TooLong at w h behind fr e (λ t′ u′ opens′ ht hu ho. tt) r
-  lacking BadByte at w h behind fr e r = never BadByte at w h behind fr e (λ t′ u′ opens′ ht hu ho. tt) r
-  lacking BadNumber at w h behind fr e r = never BadNumber at w h behind fr e (λ t′ u′ opens′ ht hu ho. tt) r
-  lacking Misplaced at w h behind fr e r = never Misplaced at w h behind fr e (λ t′ u′ opens′ ht hu ho. tt) r
-  lacking TooDeep at w h behind fr e r =
-      ⊎-elim (λ l. l) (λ l. absurd (refuted TooDeep at w h (max t (length (rows-of e .0))) (max u (length (rows-of e .1))) opens (omega arith) (omega arith) (omega arith) (omega arith) behind fr e r (omega arith) (omega arith) l)) (order opens (depth e))
-  lacking NoTypeRow at w h behind fr e r =
-      ⊎-elim (λ l. l) (λ l. absurd (refuted NoTypeRow at w h t (max u (length (rows-of e .1))) (max opens (depth e)) (omega arith) (omega arith) (omega arith) (λ o few. few .0 (omega arith)) behind fr e r l (omega arith) (omega arith))) (order t (length (rows-of e .0)))
-  lacking NoTermRow at w h behind fr e r =
-      ⊎-elim (λ l. l) (λ l. absurd (refuted NoTermRow at w h (max t (length (rows-of e .0))) u (max opens (depth e)) (omega arith) (omega arith) (omega arith) (λ o few. few .0 (omega arith)) behind fr e r (omega arith) l (omega arith))) (order u (length (rows-of e .1)))
+  lacking : (j : Fault) → Halt′ (halted .at) (token rest) j → (behind : List ℕ) → Fronts rest behind → (e : Term) → Renders (pre ++ behind) e → Lacking j e
+  lacking TooLong h behind fr e r = never TooLong h behind fr e (λ t′ u′ opens′ ht hu ho. tt) r
+  lacking BadByte h behind fr e r = never BadByte h behind fr e (λ t′ u′ opens′ ht hu ho. tt) r
+  lacking BadNumber h behind fr e r = never BadNumber h behind fr e (λ t′ u′ opens′ ht hu ho. tt) r
+  lacking Misplaced h behind fr e r = never Misplaced h behind fr e (λ t′ u′ opens′ ht hu ho. tt) r
+  lacking TooDeep h behind fr e r =
+      ⊎-elim (λ l. l) (λ l. absurd (refuted TooDeep h (max t (length (rows-of e .0))) (max u (length (rows-of e .1))) opens (omega arith) (omega arith) (omega arith) (omega arith) behind fr e r (omega arith) (omega arith) l)) (order opens (depth e))
+  lacking NoTypeRow h behind fr e r =
+      ⊎-elim (λ l. l) (λ l. absurd (refuted NoTypeRow h t (max u (length (rows-of e .1))) (max opens (depth e)) (omega arith) (omega arith) (omega arith) (λ o few. few .0 (omega arith)) behind fr e r l (omega arith) (omega arith))) (order t (length (rows-of e .0)))
+  lacking NoTermRow h behind fr e r =
+      ⊎-elim (λ l. l) (λ l. absurd (refuted NoTermRow h (max t (length (rows-of e .0))) u (max opens (depth e)) (omega arith) (omega arith) (omega arith) (λ o few. few .0 (omega arith)) behind fr e r (omega arith) l (omega arith))) (order u (length (rows-of e .1)))
 
   -- ---- the text before the place
 
@@ -223,10 +251,10 @@ module _ (types terms opens : ℕ) (bs pre rest : List ℕ) (ts : List Tok) (b :
     completes-good : (fs : List (Bracket ℕ ℕ)) → Good fs → Completes room (go tt (others fs))
     completes-good fs g = completes room (others fs) (good-other free fs g)
 
-    alive : (f : Fault) (at : Turn Tables ℕ ℕ) (st : Step) → walk m opens ts (go empty []) ≡ at → Halt′ at st f → Completes room (walk any room ts (go tt []))
-    alive f (go s fs) st w h = let c = freed (go s fs) w in subst (Completes room) (sym (c .0)) (completes-good fs (c .1 .0))
-    alive f (done s y) st w h = subst (Completes room) (sym (freed (done s y) w)) (completed room)
-    alive f (stop j) st w h = absurd h
+    alive : (at : Turn Tables ℕ ℕ) (st : Step) → walk m opens ts (go empty []) ≡ at → Halt′ at st f → Completes room (walk any room ts (go tt []))
+    alive (go s fs) st w h = let c = freed (go s fs) w in subst (Completes room) (sym (c .0)) (completes-good fs (c .1 .0))
+    alive (done s y) st w h = subst (Completes room) (sym (freed (done s y) w)) (completed room)
+    alive (stop j) st w h = absurd h
 
     -- what a token would lead to if there were a row for it
     deep : (fs : List (Bracket ℕ ℕ)) (b : Bracket ℕ ℕ) (d : Told) → length fs < room → d ≡ opened room (bracket b) tt (others fs) → Good (b ∷ fs) → Completes room d
@@ -244,8 +272,13 @@ module _ (types terms opens : ℕ) (bs pre rest : List ℕ) (ts : List Tok) (b :
         subst (Completes room) (sym (e ∙ ap (λ o. made o (others fs)) c))
         (taken room (others fs) (good-other free fs g) (wanted-other free fs ∙ w))
 
-  before : (f : Fault) (at : Turn Tables ℕ ℕ) (st : Step) → walk m opens ts (go empty []) ≡ at → Halt′ at st f → Begins pre
-  before f at st w h = begins opens pre ts (λ cs. before-instead (32 ∷ cs) (space-instead rest cs) b) (alive opens (omega arith) f at st w h)
+  before : Begins pre
+  before = begins opens pre ts (λ cs. before-instead (32 ∷ cs) (space-instead rest cs) b) (alive opens (omega arith) (halted .at) (token rest) (halted .walked) (halted .halt))
+
+  lives : (at : Turn Tables ℕ ℕ) (st : Step) → walk m opens ts (go empty []) ≡ at → Halt′ at st f → Live (walk m opens ts (go empty []))
+  lives (go s fs) st w h = subst Live (sym w) tt
+  lives (done s y) st w h = subst Live (sym w) tt
+  lives (stop k) st w h = absurd h
 
   -- ---- what stands there
 
@@ -285,7 +318,7 @@ module _ (types terms opens : ℕ) (bs pre rest : List ℕ) (ts : List Tok) (b :
         (before-instead (spelling v ++ 32 ∷ ds) (record { letters = run-instead Letter (spelling v) cs (32 ∷ ds) (λ q. refl); digits = run-instead Digit (spelling v) cs (32 ∷ ds) (λ q. refl) }) (subst (λ l. Before l pre ts) (r .0) b)))
         (subst (Completes room) (sym (walk-append any room ts (v ∷ []) (go tt []) ∙ ap (walk any room (v ∷ [])) (freed room (omega arith) (go s fs) w .0))) c))
 
-    turned : (f : Fault) → After free m any opens room fs (stop f) led → Stood f
+    turned : (j : Fault) → After free m any opens room fs (stop j) led → Stood j
     turned TooLong a = a
     turned BadByte a = absurd a
     turned BadNumber a = absurd a
@@ -294,146 +327,138 @@ module _ (types terms opens : ℕ) (bs pre rest : List ℕ) (ts : List Tok) (b :
     turned NoTypeRow a = with-token (typed room (omega arith) (a .0) (a .1) led (a .2) (a .3) (a .4) (a .5))
     turned NoTermRow a = with-token (termed room (omega arith) (a .0) (a .1) led (a .2) (a .3) (a .4) (a .5))
 
-    stopped : (f : Fault) → turn m opens v s fs ≡ stop f → Stood f
-    stopped f h = turned f (subst (λ c. After free m any opens room fs c led) h (turn-after free m any opens room (frees m) (omega arith) v s fs (freed room (omega arith) (go s fs) w .1)))
+    stopped : turn m opens v s fs ≡ stop f → Stood f
+    stopped h = turned f (subst (λ c. After free m any opens room fs c led) h (turn-after free m any opens room (frees m) (omega arith) v s fs (freed room (omega arith) (go s fs) w .1)))
 
-  stood : (f : Fault) (at : Turn Tables ℕ ℕ) (st : Step) → token rest ≡ st → walk m opens ts (go empty []) ≡ at → Halt′ at st f → Stood f
-  stood f (go s fs) over e w h = subst Stood (sym h) (ap fault-of e)
-  stood f (go s fs) (took v cs) e w h = stopped v cs s fs e w f h
-  stood f (go s fs) (refused k) e w h = subst Stood (sym h) (lexed k e)
-  stood f (done s y) over e w h = absurd h
-  stood f (done s y) (took v cs) e w h = subst Stood (sym h) (ap fault-of e)
-  stood f (done s y) (refused k) e w h = subst Stood (sym h) (lexed k e)
-  stood f (stop k) st e w h = absurd h
+  stood : (at : Turn Tables ℕ ℕ) (st : Step) → token rest ≡ st → walk m opens ts (go empty []) ≡ at → Halt′ at st f → Stood f
+  stood (go s fs) over e w h = subst Stood (sym h) (ap fault-of e)
+  stood (go s fs) (took v cs) e w h = stopped v cs s fs e w h
+  stood (go s fs) (refused k) e w h = subst Stood (sym h) (lexed k e)
+  stood (done s y) over e w h = absurd h
+  stood (done s y) (took v cs) e w h = subst Stood (sym h) (ap fault-of e)
+  stood (done s y) (refused k) e w h = subst Stood (sym h) (lexed k e)
+  stood (stop k) st e w h = absurd h
 
--- ---- the theorem
+  -- ---- the theorem
 
-module _ (types terms opens : ℕ) (bs : List ℕ) (short : length bs ≤ 16384) where
-  -- the reading of a text that is not too long, by whether there is a type row
-  in-bounds : (types′ terms′ opens′ : ℕ) (b : Bool) → eqb types′ 0 ≡ b → outcome-within 16384 1024 2048 types′ terms′ opens′ bs ≡ cond b (refused-at NoTypeRow 0) (read (into-tables (min types′ 1024) (min terms′ 2048)) opens′ (length bs) bs empty)
-  in-bounds types′ terms′ opens′ b e =
-      ap (λ b. cond b (refused-at TooLong 16384) (cond (eqb types′ 0) (refused-at NoTypeRow 0) (read (into-tables (min types′ 1024) (min terms′ 2048)) opens′ (length bs) bs empty))) (le-ltb 16384 (length bs) short)
-      ∙ ap (λ b. cond b (refused-at NoTypeRow 0) (read (into-tables (min types′ 1024) (min terms′ 2048)) opens′ (length bs) bs empty)) e
+  is : bs ≡ pre ++ rest
+  is = halted .passed .split
 
-  -- rows are handed over, and a text is refused as it is read
-  module _ (some : 0 < types) (f : Fault) (p : ℕ) (h : read (into-tables (min types 1024) (min terms 2048)) opens (length bs) bs empty ≡ refused-at f p) where
-    abbrev by-tables : Maker Tables ℕ ℕ
-    by-tables = into-tables (min types 1024) (min terms 2048)
+  long : length pre ≡ p
+  long =
+      let a = ap length is ∙ length-append pre rest in
+      let q = halted .place in
+      omega arith
 
-    halted : Halted by-tables opens (length bs) bs empty [] f p
-    halted = halts by-tables opens (length bs) (suc (length bs)) bs empty [] f p (omega arith) h
+  drop-is : drop p bs ≡ rest
+  drop-is = ap (drop p) is ∙ drop-at pre rest p long
 
-    abbrev pre : List ℕ
-    pre = halted .passed .front
+  end-is : end-at bs p ≡ length pre + width rest
+  end-is = let w = ap width drop-is in let l = long in omega arith
 
-    abbrev behind : List ℕ
-    behind = halted .rest
+  take-end : take (end-at bs p) bs ≡ pre ++ take (width rest) rest
+  take-end = ap (take (end-at bs p)) is ∙ take-past pre rest (width rest) (end-at bs p) end-is
 
-    is : bs ≡ pre ++ behind
-    is = halted .passed .split
+  abbrev Out : Term → Type 0
+  Out = Lacking f
 
-    long : length pre ≡ p
-    long =
-        let a = ap length is ∙ length-append pre behind in
-        let q = halted .place in
+  alike : (cs : List ℕ) → Alike p bs cs → (e : Term) → Renders cs e → Out e
+  alike cs q e r =
+      let c = parted pre rest cs (width rest) (end-at bs p) end-is (q .0 ∙ ap (take (end-at bs p)) is) in
+      let d = ap width (ap (drop p) (c .split) ∙ drop-at pre (c .behind) p long) in
+      let w = ap width drop-is in
+      let ends = q .1 in
+      lacking f (halted .halt) (c .behind)
+      (fronts rest (c .behind) (omega arith) (c .alike)) e (subst (λ l. Renders l e) (c .split) r)
+
+  module _ (types′ terms′ opens′ : ℕ) (ht : types ≤ types′) (hu : terms ≤ terms′) (ho : opens ≤ opens′) where
+    more-types : min types 1024 ≤ min types′ 1024
+    more-types = omega arith
+
+    more-terms : min terms 2048 ≤ min terms′ 2048
+    more-terms = omega arith
+
+    abbrev Still″ : Fault → Type 0
+    Still″ =
+        Still (wider t u (min types′ 1024) (min terms′ 2048)) m (into-tables (min types′ 1024) (min terms′ 2048)) opens opens′
+        (widens t u (min types′ 1024) (min terms′ 2048) more-types more-terms) ho
+
+    as-few : (g : Fault) → given 16384 1024 2048 g types′ terms′ opens′ ≡ given 16384 1024 2048 g types terms opens → Still″ g
+    as-few TooLong q = tt
+    as-few BadByte q = tt
+    as-few BadNumber q = tt
+    as-few Misplaced q = tt
+    as-few TooDeep q = omega arith
+    as-few NoTypeRow q = λ o full. full .0 (omega arith)
+    as-few NoTermRow q = λ o full. full .0 (omega arith)
+
+    helpless : given 16384 1024 2048 f types′ terms′ opens′ ≡ given 16384 1024 2048 f types terms opens → outcome-within 16384 1024 2048 types′ terms′ opens′ bs ≡ refused-at f p
+    helpless few =
+        in-bounds types′ terms′ opens′ bs short false (ne-eqb types′ 0 (λ e. omega arith))
+        ∙ keeps (wider t u (min types′ 1024) (min terms′ 2048)) m (into-tables (min types′ 1024) (min terms′ 2048)) opens opens′
+        (widens t u (min types′ 1024) (min terms′ 2048) more-types more-terms) ho (length bs) f p (as-few f few) (suc (length bs)) bs empty [] (tt, (omega arith, omega arith), omega arith) h
+
+    roomier : (k : Fault) → given 16384 1024 2048 k types terms opens < given 16384 1024 2048 k types′ terms′ opens′
+        → Roomier f (halted .halt) (min types′ 1024) (min terms′ 2048) opens′ more-types more-terms ho k
+    roomier TooLong r = absurd (omega arith)
+    roomier BadByte r = absurd (omega arith)
+    roomier BadNumber r = absurd (omega arith)
+    roomier Misplaced r = absurd (omega arith)
+    roomier TooDeep r = r
+    roomier NoTypeRow r = r
+    roomier NoTermRow r = r
+
+    goes-past : given 16384 1024 2048 f types terms opens < given 16384 1024 2048 f types′ terms′ opens′ → (g : Fault) (q : ℕ) → outcome-within 16384 1024 2048 types′ terms′ opens′ bs ≡ refused-at g q → p < q
+    goes-past r g q o =
+        let l = ap length is ∙ length-append pre rest in
+        let reads : read (into-tables (min types′ 1024) (min terms′ 2048)) opens′ (length bs) bs empty ≡ refused-at g q = sym (in-bounds types′ terms′ opens′ bs short false (ne-eqb types′ 0 (λ e. omega arith))) ∙ o in
+        let k = further f (halted .halt) (min types′ 1024) (min terms′ 2048) opens′ more-types more-terms ho (roomier f r) g q (omega arith) (suc (length bs)) (let e = ap length is in omega arith) (ap (λ l. reading (into-tables (min types′ 1024) (min terms′ 2048)) opens′ (length bs) (suc (length bs)) l empty []) (sym is) ∙ reads) in
+        let e = halted .place in
         omega arith
 
-    drop-is : drop p bs ≡ behind
-    drop-is = ap (drop p) is ∙ drop-at pre behind p long
+  reaches : (cs : List ℕ) → length (take p bs ++ 32 ∷ cs) ≤ 16384 → (g : Fault) (q : ℕ) → outcome-within 16384 1024 2048 types terms opens (take p bs ++ 32 ∷ cs) ≡ refused-at g q → p ≤ q
+  reaches cs l g q o =
+      let to : take p bs ≡ pre = ap (take p) is ∙ take-at pre rest p long in
+      let fits : length (pre ++ 32 ∷ cs) ≤ 16384 = subst (λ x. length (x ++ 32 ∷ cs) ≤ 16384) to l in
+      let reads : read m opens (length (pre ++ 32 ∷ cs)) (pre ++ 32 ∷ cs) empty ≡ refused-at g q = sym (in-bounds types terms opens (pre ++ 32 ∷ cs) fits false (ne-eqb types 0 (λ e. omega arith))) ∙ ap (λ x. outcome-within 16384 1024 2048 types terms opens (x ++ 32 ∷ cs)) (sym to) ∙ o in
+      let k = reached m opens (length (pre ++ 32 ∷ cs)) g q (before-instead (32 ∷ cs) (space-instead rest cs) (halted .passed .before)) (suc (length (pre ++ 32 ∷ cs))) empty []
+      (lives (halted .at) (token rest) (halted .walked) (halted .halt)) (omega arith) reads in
+      let n = length-append pre (32 ∷ cs) in
+      let e = long in
+      omega arith
 
-    end-is : end-at bs p ≡ length pre + width behind
-    end-is = let w = ap width drop-is in let l = long in omega arith
+  up-to : Up-to bs p Out
+  up-to = record {
+    within = let l = ap length is ∙ length-append pre rest in let q = long in omega arith;
+    apart = λ i l.
+        let e = ap (λ l. width (drop i l)) is in
+        let k = long in
+        let h = none-over (halted .passed .before) i (omega arith) in
+        omega arith;
+    before = subst Begins (sym (ap (take p) is ∙ take-at pre rest p long)) before;
+    there = alike;
+  }
 
-    take-end : take (end-at bs p) bs ≡ pre ++ take (width behind) behind
-    take-end = ap (take (end-at bs p)) is ∙ take-past pre behind (width behind) (end-at bs p) end-is
+  means : (g : Fault) → Stood g
+      → Up-to bs p (Lacking g) → Means 16384 1024 2048 types terms opens bs g p
+  means TooLong a o = a
+  means BadByte a o = (ap (λ l. fault-of (token l)) drop-is ∙ a, o)
+  means BadNumber a o = (ap (λ l. fault-of (token l)) drop-is ∙ a, o)
+  means Misplaced a o = (ap (λ l. fault-of (token l)) drop-is ∙ a, o)
+  means TooDeep a o = (λ q. subst Begins (sym take-end) a, o)
+  means NoTypeRow a o = (λ q. subst Begins (sym take-end) a, o)
+  means NoTermRow a o = (λ q. subst Begins (sym take-end) a, o)
 
-    abbrev Out : Term → Type 0
-    Out = Lacking types terms opens bs pre behind (halted .tokens) (halted .passed .before) (halted .clear) some f
+  read-rightly : Rightly 16384 1024 2048 types terms opens bs f p
+  read-rightly = record {
+    long = λ l. absurd (omega arith);
+    short = λ s. means f (stood (halted .at) (token rest) refl (halted .walked) (halted .halt)) up-to;
+    reached = reaches;
+    rows = helpless;
+    past = λ types′ terms′ opens′ q. goes-past types′ terms′ opens′;
+  }
 
-    alike : (cs : List ℕ) → Alike p bs cs → (e : Term) → Renders cs e → Out e
-    alike cs q e r =
-        let c = parted pre behind cs (width behind) (end-at bs p) end-is (q .0 ∙ ap (take (end-at bs p)) is) in
-        let d = ap width (ap (drop p) (c .split) ∙ drop-at pre (c .behind) p long) in
-        let w = ap width drop-is in
-        let ends = q .1 in
-        lacking types terms opens bs pre behind (halted .tokens) (halted .passed .before) (halted .clear) some f (halted .at) (halted .walked) (halted .halt) (c .behind)
-        (fronts behind (c .behind) (omega arith) (c .alike)) e (subst (λ l. Renders l e) (c .split) r)
-
-    module _ (types′ terms′ opens′ : ℕ) (ht : types ≤ types′) (hu : terms ≤ terms′) (ho : opens ≤ opens′) where
-      more-types : min types 1024 ≤ min types′ 1024
-      more-types = omega arith
-
-      more-terms : min terms 2048 ≤ min terms′ 2048
-      more-terms = omega arith
-
-      abbrev Still″ : Fault → Type 0
-      Still″ =
-          Still (wider (min types 1024) (min terms 2048) (min types′ 1024) (min terms′ 2048)) by-tables (into-tables (min types′ 1024) (min terms′ 2048)) opens opens′
-          (widens (min types 1024) (min terms 2048) (min types′ 1024) (min terms′ 2048) more-types more-terms) ho
-
-      as-few : (g : Fault) → given 16384 1024 2048 g types′ terms′ opens′ ≡ given 16384 1024 2048 g types terms opens → Still″ g
-      as-few TooLong q = tt
-      as-few BadByte q = tt
-      as-few BadNumber q = tt
-      as-few Misplaced q = tt
-      as-few TooDeep q = omega arith
-      as-few NoTypeRow q = λ o full. full .0 (omega arith)
-      as-few NoTermRow q = λ o full. full .0 (omega arith)
-
-      helpless : given 16384 1024 2048 f types′ terms′ opens′ ≡ given 16384 1024 2048 f types terms opens → outcome-within 16384 1024 2048 types′ terms′ opens′ bs ≡ refused-at f p
-      helpless few =
-          in-bounds types′ terms′ opens′ false (ne-eqb types′ 0 (λ e. omega arith))
-          ∙ keeps (wider (min types 1024) (min terms 2048) (min types′ 1024) (min terms′ 2048)) by-tables (into-tables (min types′ 1024) (min terms′ 2048)) opens opens′
-          (widens (min types 1024) (min terms 2048) (min types′ 1024) (min terms′ 2048) more-types more-terms) ho (length bs) f p (as-few f few) (suc (length bs)) bs empty [] (tt, (omega arith, omega arith), omega arith) h
-
-      roomier : (k : Fault) → given 16384 1024 2048 k types terms opens < given 16384 1024 2048 k types′ terms′ opens′
-          → Roomier types terms opens bs pre behind (halted .tokens) (halted .passed .before) (halted .clear) some f (halted .at) (halted .walked) (halted .halt) (min types′ 1024) (min terms′ 2048) opens′ more-types more-terms ho k
-      roomier TooLong r = absurd (omega arith)
-      roomier BadByte r = absurd (omega arith)
-      roomier BadNumber r = absurd (omega arith)
-      roomier Misplaced r = absurd (omega arith)
-      roomier TooDeep r = r
-      roomier NoTypeRow r = r
-      roomier NoTermRow r = r
-
-      goes-past : given 16384 1024 2048 f types terms opens < given 16384 1024 2048 f types′ terms′ opens′ → (g : Fault) (q : ℕ) → outcome-within 16384 1024 2048 types′ terms′ opens′ bs ≡ refused-at g q → p < q
-      goes-past r g q o =
-          let l = ap length is ∙ length-append pre behind in
-          let reads : read (into-tables (min types′ 1024) (min terms′ 2048)) opens′ (length bs) bs empty ≡ refused-at g q = sym (in-bounds types′ terms′ opens′ false (ne-eqb types′ 0 (λ e. omega arith))) ∙ o in
-          let k = further types terms opens bs pre behind (halted .tokens) (halted .passed .before) (halted .clear) some f (halted .at) (halted .walked) (halted .halt) (min types′ 1024) (min terms′ 2048) opens′ more-types more-terms ho (roomier f r) g q (omega arith) (suc (length bs)) (let e = ap length is in omega arith) (ap (λ l. reading (into-tables (min types′ 1024) (min terms′ 2048)) opens′ (length bs) (suc (length bs)) l empty []) (sym is) ∙ reads) in
-          let e = halted .place in
-          omega arith
-
-    up-to : Up-to bs p Out
-    up-to = record {
-      within = let l = ap length is ∙ length-append pre behind in let q = long in omega arith;
-      apart = λ i l.
-          let e = ap (λ l. width (drop i l)) is in
-          let k = long in
-          let h = none-over (halted .passed .before) i (omega arith) in
-          omega arith;
-      before = subst Begins (sym (ap (take p) is ∙ take-at pre behind p long)) (before types terms opens bs pre behind (halted .tokens) (halted .passed .before) (halted .clear) some f (halted .at) (token behind) (halted .walked) (halted .halt));
-      there = alike;
-    }
-
-    means : (g : Fault) → Stood types terms opens bs pre behind (halted .tokens) (halted .passed .before) (halted .clear) some g
-        → Up-to bs p (Lacking types terms opens bs pre behind (halted .tokens) (halted .passed .before) (halted .clear) some g) → Means 16384 1024 2048 types terms opens bs g p
-    means TooLong a o = a
-    means BadByte a o = (ap (λ l. fault-of (token l)) drop-is ∙ a, o)
-    means BadNumber a o = (ap (λ l. fault-of (token l)) drop-is ∙ a, o)
-    means Misplaced a o = (ap (λ l. fault-of (token l)) drop-is ∙ a, o)
-    means TooDeep a o = (λ q. subst Begins (sym take-end) a, o)
-    means NoTypeRow a o = (λ q. subst Begins (sym take-end) a, o)
-    means NoTermRow a o = (λ q. subst Begins (sym take-end) a, o)
-
-    read-rightly : Rightly 16384 1024 2048 types terms opens bs f p
-    read-rightly = record {
-      long = λ l. absurd (omega arith);
-      short = λ s. means f (stood types terms opens bs pre behind (halted .tokens) (halted .passed .before) (halted .clear) some f (halted .at) (token behind) refl (halted .walked) (halted .halt)) up-to;
-      rows = helpless;
-      past = λ types′ terms′ opens′ q. goes-past types′ terms′ opens′;
-    }
-
+module _ (types terms opens : ℕ) (bs : List ℕ) (short : length bs ≤ 16384) where
   -- no type row is handed over, not even for nat
   rowless : types ≡ 0 → Rightly 16384 1024 2048 types terms opens bs NoTypeRow 0
   rowless none = record {
@@ -447,7 +472,8 @@ module _ (types terms opens : ℕ) (bs : List ℕ) (short : length bs ≤ 16384)
         there = λ cs q e r. let g = emitted 0 0 e .grows empty in omega arith;
       },
     );
-    rows = λ types′ terms′ opens′ ht hu ho few. in-bounds types′ terms′ opens′ true (eq-eqb types′ 0 (omega arith));
+    reached = λ cs l g q o. omega arith;
+    rows = λ types′ terms′ opens′ ht hu ho few. in-bounds types′ terms′ opens′ bs short true (eq-eqb types′ 0 (omega arith));
     past = λ types′ terms′ opens′ some ht hu ho r. absurd (omega arith);
   }
 
@@ -455,6 +481,10 @@ too-long : (types terms opens : ℕ) (bs : List ℕ) → 16384 < length bs → R
 too-long types terms opens bs h = record {
   long = λ l. (refl, refl);
   short = λ s. absurd (omega arith);
+  reached = λ cs l g q o.
+      let n = length-append (take 16384 bs) (32 ∷ cs) in
+      let k = length-take 16384 bs in
+      absurd (omega arith);
   rows = λ types′ terms′ opens′ ht hu ho few. ap (λ b. cond b (refused-at TooLong 16384) (cond (eqb types′ 0) (refused-at NoTypeRow 0) (read (into-tables (min types′ 1024) (min terms′ 2048)) opens′ (length bs) bs empty))) (lt-ltb 16384 (length bs) h);
   past = λ types′ terms′ opens′ some ht hu ho r. absurd (omega arith);
 }

@@ -33,6 +33,10 @@ together-some Other b bs e = omega arith
 width-some : (b : ℕ) (bs : List ℕ) → 0 < width (b ∷ bs)
 width-some b bs = together-some (class b) b bs refl
 
+pub token-some : (bs : List ℕ) (t : Tok) (cs : List ℕ) → token bs ≡ took t cs → 0 < width bs
+token-some [] t cs e = let z : _≡_ {A = ℕ} 0 1 = cc in absurd (omega arith)
+token-some (b ∷ bs) t cs e = width-some b bs
+
 -- the lexer finds no faults but these
 abbrev pub Lexical : Fault → Type 0
 Lexical TooLong = ⊥

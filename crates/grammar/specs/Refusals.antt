@@ -27,6 +27,7 @@ together Digit bs = run Digit bs
 together Letter bs = run Letter bs
 together Other bs = 1
 
+-- and at the front of any text
 abbrev pub width : List ℕ → ℕ
 width [] = 0
 width (b ∷ bs) = together (class b) (b ∷ bs)
@@ -51,10 +52,10 @@ pub record Up-to (bs : List ℕ) (p : ℕ) (Out : Term → Type 0) : Type 0 wher
   pub apart : (i : ℕ) → i < p → end-at bs i ≤ p
   -- the text before it begins the text of a term
   pub before : Begins (take p bs)
-  -- a text of a term that goes on as this one does there is of one that is Out
+  -- a text of a term that is like this one to the end of what stands there is that of a term which is Out
   pub there : (cs : List ℕ) → Alike p bs cs → (e : Term) → Renders cs e → Out e
 
--- the fault of what stands where it may not: no token at all, or one that is misplaced, as is an early end
+-- the fault of what stands where it may not: a lexical fault, or else a token, or the end of the text, is misplaced
 abbrev pub fault-of : Step → Fault
 fault-of over = Misplaced
 fault-of (took t cs) = Misplaced
@@ -105,6 +106,8 @@ module _ (most-bytes most-types most-terms : ℕ) where
       pub long : most-bytes < length bs → (f ≡ TooLong) × (p ≡ most-bytes)
       -- any other by what its fault means
       pub short : length bs ≤ most-bytes → Means f p
+      -- the rows suffice up to there: with anything else behind a space in its place, the text is not refused before it
+      pub reached : (cs : List ℕ) → length (take p bs ++ 32 ∷ cs) ≤ most-bytes → (g : Fault) (q : ℕ) → outcome-within most-bytes most-types most-terms types terms opens (take p bs ++ 32 ∷ cs) ≡ refused-at g q → p ≤ q
       -- more rows do not help, if there are no more of those that are lacking
       pub rows : (types′ terms′ opens′ : ℕ) → types ≤ types′ → terms ≤ terms′ → opens ≤ opens′ → given f types′ terms′ opens′ ≡ given f types terms opens
           → outcome-within most-bytes most-types most-terms types′ terms′ opens′ bs ≡ refused-at f p

@@ -27,8 +27,8 @@ pub fn reads_once()
     theory::rows_stand();
 }
 
-// A text that is refused is too long, or it may be that of a term up to the place that is named. There it goes wrong,
-// whatever the rows, or rows of the kind that is named run out, and with more of them it is read further.
+// A text that is refused is too long, or it may be that of a term up to the place that is named. Either it goes wrong
+// there, with any rows, or rows of the kind that is named run out there, and with more of them it is read further.
 pub fn refuses_rightly()
     ensures { λ _. ⌜ Refuses-rightly 16384 1024 2048 ⌝ }
 {}
