@@ -1,0 +1,24 @@
+use mathlib.Core.Path.{_∙_, sym}
+use Rattle.counters.specs.declared.price.PriceRow.{PriceRow}
+use Rattle.counters.proofs.PriceRows.{bad-more, bad-field, bad-order, bad-end}
+use Rattle.counters.proofs.prices.making.check_rows.Needs as need
+
+abbrev none : PriceRow
+none = record { article = 0; price = 0 }
+
+pub returns-then-not-is-priced : need.returns-then-not-is-priced
+returns-then-not-is-priced c =
+    bad-field (c .args .rows .now) (c .loop-i .least) (c .loop-i .i) none (c .loop-i-test .taken) (sym (c .if-not-is-priced .ensures tt)) ∙ c .loop-i .inv
+
+pub returns-then-row-least : need.returns-then-row-least
+returns-then-row-least c =
+    bad-order (c .args .rows .now) (c .loop-i .least) (c .loop-i .i) none (c .loop-i-test .taken) (sym (c .if-not-is-priced .ensures tt)) (c .if-row-least .taken)
+    ∙ c .loop-i .inv
+
+pub loop-i-again : need.loop-i-again
+loop-i-again c =
+    bad-more (c .args .rows .now) (c .loop-i .least) (c .loop-i .i) none (c .loop-i-test .taken) (sym (c .if-not-is-priced .ensures tt)) (c .if-row-least .left)
+    ∙ c .loop-i .inv
+
+pub returns : need.returns
+returns c = bad-end (c .args .rows .now) (c .loop-i .least) (c .loop-i .i) (c .loop-i-test .left) ∙ c .loop-i .inv
