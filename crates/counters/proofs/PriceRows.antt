@@ -1,15 +1,15 @@
 -- What passes over rows find of their refusal and of their table.
-use mathlib.Core.Path.{_≡_, refl, sym, ap, _∙_}
+use mathlib.Core.Path.{_≡_, refl, sym, _∙_}
 use mathlib.Core.List.{List, [], _∷_}
 use mathlib.Core.Bool.{true, false}
 use mathlib.Core.Logic.{⊎-elim}
-use Prim.Native.Nat.{ℕ, zero, suc, min, _+_, _<_, _≤_}
+use Prim.Native.Nat.{ℕ, zero, suc, _+_, _<_, _≤_}
 use native.Mathlib.Omega.{arith}
 use lib.Dec.{eqb, leb, ltb}
-use lib.ListN.{length, getD, take, drop}
+use lib.ListN.{length, getD, drop}
 use Rattle.std.specs.Options.{isSome}
 use Rattle.std.specs.declared.option.Option.the-variants.{Some, None}
-use Rattle.std.proofs.shelf.Lists.{at-drop-more, at-drop-all, getD-take, getD-default, length-take, length-take-le}
+use Rattle.std.proofs.shelf.Lists.{at-drop-more, at-drop-all}
 use Rattle.std.proofs.shelf.Tests.{le-leb, lt-leb, le-ltb, ne-eqb, eq-eqb, cases-lt, cond-true, cond-false}
 use Rattle.counters.specs.declared.price.PriceRow.{PriceRow}
 use Rattle.counters.specs.PriceLists.{price-table, is-priced, first-bad, prices-outcome}
@@ -56,40 +56,24 @@ found (r ∷ rs) least i h (suc k) d lt q e =
     ∙ sym (cond-false (eqb (r .article) q) _ _ (ne-eqb (r .article) q (λ same. omega (arith, floors rs (r .article + 1) (i + 1) (p .rest) k d (omega arith), e))))
 
 -- An article in no row has no price.
-missing : (rows : List PriceRow) (q : ℕ) → ((k : ℕ) (d : PriceRow) → k < length rows → getD rows k d .article ≡ q → ⊥) → None ≡ price-table rows q
-missing [] q h = refl
-missing (r ∷ rs) q h =
-    missing rs q (λ k d lt. h (suc k) d (omega arith))
-    ∙ sym (cond-false (eqb (r .article) q) _ _ (ne-eqb (r .article) q (h 0 r (omega arith))))
+pub missing : (rows : List PriceRow) (q : ℕ) (d : PriceRow) → ((k : ℕ) → k < length rows → getD rows k d .article ≡ q → ⊥) → None ≡ price-table rows q
+missing [] q d h = refl
+missing (r ∷ rs) q d h =
+    missing rs q d (λ k lt. h (suc k) (omega arith)) ∙ sym (cond-false (eqb (r .article) q) _ _ (ne-eqb (r .article) q (h 0 (omega arith))))
 
-pub missing-in : (rows : List PriceRow) (n q : ℕ) (d : PriceRow) → ((k : ℕ) → k < n → getD rows k d .article ≡ q → ⊥) → None ≡ price-table (take n rows) q
-missing-in rs n q d h =
-    missing (take n rs) q
-    (λ k e lt same.
-    let both : k < min n (length rs) = rw (length-take n rs) at lt in
-    let lt′ : k < n = omega arith in
-    h k lt′ (ap (λ r. r .article) (getD-default rs k d e (omega arith) ∙ sym (getD-take n rs k e lt′)) ∙ same))
+-- Rows that are not refused.
+module _ (rows : List PriceRow) (passed : isSome (prices-outcome rows) ≡ false) where
+  pub found-at : (k : ℕ) (d : PriceRow) → k < length rows → (q : ℕ) → getD rows k d .article ≡ q → Some (getD rows k d .price) ≡ price-table rows q
+  found-at = found rows 0 0 (none-bad rows passed)
 
--- The first n rows, which are not refused.
-module _ (rows : List PriceRow) (n : ℕ) (within : n ≤ length rows) (passed : isSome (prices-outcome (take n rows)) ≡ false) where
-  length-front : length (take n rows) ≡ n
-  length-front = length-take-le n rows within
+  order : (j k : ℕ) (d : PriceRow) → j < k → k < length rows → getD rows j d .article < getD rows k d .article
+  order = ascending rows 0 0 (none-bad rows passed)
 
-  pub found-in : (k : ℕ) (d : PriceRow) → k < n → (q : ℕ) → getD rows k d .article ≡ q → Some (getD rows k d .price) ≡ price-table (take n rows) q
-  found-in k d lt q e =
-      let same = getD-take n rows k d lt in
-      ap (λ r. Some (r .price)) (sym same) ∙ found (take n rows) 0 0 (none-bad (take n rows) passed) k d (omega (arith, length-front)) q (ap (λ r. r .article) same ∙ e)
-
-  order-in : (j k : ℕ) (d : PriceRow) → j < k → k < n → getD rows j d .article < getD rows k d .article
-  order-in j k d lt lt′ =
-      let up = ascending (take n rows) 0 0 (none-bad (take n rows) passed) j k d lt (omega (arith, length-front)) in
-      rw (getD-take n rows j d (omega arith), getD-take n rows k d lt′) at up
-
-  -- Where the middle row is below the question, so are the rows before it, and likewise above.
-  pub below-middle : (m : ℕ) (d : PriceRow) (q : ℕ) → m < n → getD rows m d .article < q → (k : ℕ) → k < m + 1 → getD rows k d .article < q
+  -- Where the middle row is below the article, so are the rows before it; and where it is above, so are those behind it.
+  pub below-middle : (m : ℕ) (d : PriceRow) (q : ℕ) → m < length rows → getD rows m d .article < q → (k : ℕ) → k < m + 1 → getD rows k d .article < q
   below-middle m d q lt le k lt′ =
-      ⊎-elim (λ (s : k < m). omega (arith, order-in k m d s lt)) (λ (s : m ≤ k). let e : k ≡ m = omega arith in rw e le) (cases-lt k m)
+      ⊎-elim (λ (s : k < m). omega (arith, order k m d s lt)) (λ (s : m ≤ k). let e : k ≡ m = omega arith in rw e le) (cases-lt k m)
 
-  pub above-middle : (m : ℕ) (d : PriceRow) (q : ℕ) → q < getD rows m d .article → (k : ℕ) → m ≤ k → k < n → q < getD rows k d .article
+  pub above-middle : (m : ℕ) (d : PriceRow) (q : ℕ) → q < getD rows m d .article → (k : ℕ) → m ≤ k → k < length rows → q < getD rows k d .article
   above-middle m d q lt k le lt′ =
-      ⊎-elim (λ (s : m < k). omega (arith, order-in m k d s lt′)) (λ (s : k ≤ m). let e : k ≡ m = omega arith in rw e lt) (cases-lt m k)
+      ⊎-elim (λ (s : m < k). omega (arith, order m k d s lt′)) (λ (s : k ≤ m). let e : k ≡ m = omega arith in rw e lt) (cases-lt m k)

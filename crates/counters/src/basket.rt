@@ -16,7 +16,7 @@ pub const MOST_LINES: usize = 200;
 // The first `len` of these lines, which making a basket does not refuse.
 #[derive(Drop)]
 pub struct Basket {
-    lines: [Line; 200],
+    lines: [Line; MOST_LINES],
     len: usize,
     ghost few: { len ≤ 200 },
     ghost lawful: { isSome («basket-outcome» (take len lines)) ≡ false },

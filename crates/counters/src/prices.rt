@@ -16,7 +16,7 @@ pub const MOST_ROWS: usize = 2_000;
 // The first `len` of these rows, which making a price list does not refuse.
 #[derive(Drop)]
 pub struct Prices {
-    rows: [PriceRow; 2000],
+    rows: [PriceRow; MOST_ROWS],
     len: usize,
     ghost few: { len ≤ 2000 },
     ghost lawful: { isSome («prices-outcome» (take len rows)) ≡ false },

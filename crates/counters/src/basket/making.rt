@@ -42,7 +42,7 @@ impl Basket {
             lines: [Line {
                 article: 0,
                 quantity: 0,
-            }; 200],
+            }; MOST_LINES],
             len: 0,
         }
     }

@@ -49,7 +49,7 @@ impl Prices {
             rows: [PriceRow {
                 article: 0,
                 price: 0,
-            }; 2000],
+            }; MOST_ROWS],
             len: 0,
         }
     }
