@@ -1,3 +1,3 @@
-mod Fronts
 mod Lines
+mod Looks
 mod PriceRows

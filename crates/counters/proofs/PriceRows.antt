@@ -3,17 +3,18 @@ use mathlib.Core.Path.{_≡_, refl, sym, _∙_}
 use mathlib.Core.List.{List, [], _∷_}
 use mathlib.Core.Bool.{true, false}
 use mathlib.Core.Logic.{⊎-elim}
-use Prim.Native.Nat.{ℕ, zero, suc, _+_, _<_, _≤_}
+use Prim.Native.Nat.{ℕ, zero, suc, _+_, _-_, _/_, _<_, _≤_}
 use native.Mathlib.Omega.{arith}
-use lib.Dec.{eqb, leb, ltb}
+use lib.Dec.{eqb, leb}
 use lib.ListN.{length, getD, drop}
 use Rattle.std.specs.Options.{isSome}
 use Rattle.std.specs.declared.option.Option.the-variants.{Some, None}
 use Rattle.std.proofs.shelf.Lists.{at-drop-more, at-drop-all}
-use Rattle.std.proofs.shelf.Tests.{le-leb, lt-leb, le-ltb, ne-eqb, eq-eqb, cases-lt, cond-true, cond-false}
+use Rattle.std.proofs.shelf.Tests.{le-leb, lt-leb, ne-eqb, eq-eqb, cases-lt, cond-true, cond-false}
 use Rattle.counters.specs.declared.price.PriceRow.{PriceRow}
 use Rattle.counters.specs.PriceLists.{price-table, is-priced, first-bad, prices-outcome}
-use Rattle.counters.specs.LawfulPrices.{passes, none-bad}
+use Rattle.counters.specs.LawfulPrices.{passes, few-good}
+use Rattle.counters.proofs.Looks.{digits, fewer}
 
 -- One good row more, one with a field out of range, one out of order, the end.
 module _ (rows : List PriceRow) (least i : ℕ) (d : PriceRow) (inside : i < length rows) where
@@ -31,9 +32,6 @@ module _ (rows : List PriceRow) (least i : ℕ) (d : PriceRow) (inside : i < len
 
 pub bad-end : (rows : List PriceRow) (least i : ℕ) → length rows ≤ i → None ≡ first-bad (drop i rows) least i
 bad-end rs least i h = sym (at-drop-all (λ xs. first-bad xs least i) rs i h)
-
-pub few : (rows : List PriceRow) → length rows ≤ 2000 → prices-outcome rows ≡ first-bad rows 0 0
-few rs h = cond-false (ltb 2000 (length rs)) _ _ (le-ltb 2000 (length rs) h)
 
 floors : (rows : List PriceRow) (least i : ℕ) → isSome (first-bad rows least i) ≡ false → (k : ℕ) (d : PriceRow) → k < length rows → least ≤ getD rows k d .article
 floors [] least i h k d lt = absurd (omega arith)
@@ -64,10 +62,14 @@ missing (r ∷ rs) q d h =
 -- Rows that are not refused.
 module _ (rows : List PriceRow) (passed : isSome (prices-outcome rows) ≡ false) where
   pub found-at : (k : ℕ) (d : PriceRow) → k < length rows → (q : ℕ) → getD rows k d .article ≡ q → Some (getD rows k d .price) ≡ price-table rows q
-  found-at = found rows 0 0 (none-bad rows passed)
+  found-at = found rows 0 0 (few-good rows passed .1)
 
   order : (j k : ℕ) (d : PriceRow) → j < k → k < length rows → getD rows j d .article < getD rows k d .article
-  order = ascending rows 0 0 (none-bad rows passed)
+  order = ascending rows 0 0 (few-good rows passed .1)
+
+  -- A look leaves at most half of the rows, which has a binary digit less.
+  pub look-less : (low high m : ℕ) → high ≤ length rows → low < high → m ≤ (high - low) / 2 → digits 11 m < digits 11 (high - low)
+  look-less low high m le lt half = fewer 11 m (high - low) (omega arith) half (omega (arith, few-good rows passed .0))
 
   -- Where the middle row is below the article, so are the rows before it; and where it is above, so are those behind it.
   pub below-middle : (m : ℕ) (d : PriceRow) (q : ℕ) → m < length rows → getD rows m d .article < q → (k : ℕ) → k < m + 1 → getD rows k d .article < q

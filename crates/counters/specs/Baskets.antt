@@ -5,9 +5,10 @@ use Prim.Native.Nat.{ℕ, _+_}
 use lib.Dec.{eqb, leb, ltb}
 use lib.ListN.{length}
 use Rattle.std.specs.shelf.Lists.{sumBy, countBy}
+use Rattle.std.specs.declared.option.Option.{Option}
 use Rattle.std.specs.declared.option.Option.the-variants.{Some, None}
 use Rattle.counters.specs.declared.line.Line.{Line}
-use Rattle.counters.specs.Tables.{Table}
+use Rattle.counters.specs.Tables.{Table, amount-or-zero}
 use Rattle.counters.specs.Refusals.{Outcome}
 
 -- Whether a line is one of an article.
@@ -21,6 +22,10 @@ adds article line = cond (is-of article line) (line .quantity) 0
 -- The sum over the article's lines; nothing where no line has the article.
 abbrev pub basket-table : List Line → Table
 basket-table lines article = cond (ltb 0 (countBy (is-of article) lines)) (Some (sumBy (adds article) lines)) None
+
+-- The article's entry with one line more.
+abbrev pub with-line : ℕ → Option ℕ → Line → Option ℕ
+with-line article so-far line = cond (is-of article line) (Some (amount-or-zero so-far + line .quantity)) so-far
 
 -- Whether both fields of a line are at most 9,999.
 abbrev pub is-small : Line → Bool

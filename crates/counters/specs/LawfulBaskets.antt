@@ -44,6 +44,9 @@ adds-small q [] h = tt
 adds-small q (l ∷ ls) h =
     (cond-both (is-of q l) (l .quantity) 0 (λ n. n ≤ 9999) (λ _. h .0 .1) (λ _. omega arith), adds-small q ls (h .1))
 
+pub sum-small : (article : ℕ) (lines : List Line) → All Small lines → sumBy (adds article) lines ≤ length lines * 9999
+sum-small q ls h = sumBy-le (adds q) 9999 ls (adds-small q ls h)
+
 none-above : (article : ℕ) (lines : List Line) → 9999 < article → All Small lines → countBy (is-of article) lines ≡ 0
 none-above q [] big h = refl
 none-above q (l ∷ ls) big h =
@@ -55,7 +58,7 @@ basket-lawful ls h =
     let f = few-small ls h in
     record {
       amounts = λ q n. cond-both (ltb 0 (countBy (is-of q) ls)) (Some (sumBy (adds q) ls)) None (λ o. o ≡ Some n → n ≤ top)
-          (λ _ e. let s : sumBy (adds q) ls ≡ n = cc in omega (arith, sumBy-le (adds q) 9999 ls (adds-small q ls (f .1)), f .0, s))
+          (λ _ e. let s : sumBy (adds q) ls ≡ n = cc in omega (arith, sum-small q ls (f .1), f .0, s))
           (λ _ e. let z : _≡_ {A = ℕ} 0 1 = cc in omega arith);
       above = λ q big. rw (none-above q ls (omega arith) (f .1)) refl;
     }

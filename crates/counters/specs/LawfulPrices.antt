@@ -9,7 +9,7 @@ use lib.Dec.{eqb, leb, ltb}
 use lib.ListN.{length}
 use Rattle.std.specs.Options.{isSome}
 use Rattle.std.specs.declared.option.Option.the-variants.{Some, None}
-use Rattle.std.proofs.shelf.Tests.{leb-true, ne-eqb, cases-bool, cond-false, and-parts, both-ways, cond-both}
+use Rattle.std.proofs.shelf.Tests.{leb-true, ltb-false, ne-eqb, cases-bool, cond-false, and-parts, both-ways, cond-both}
 use Rattle.rows.specs.Limits.{top}
 use Rattle.counters.specs.declared.price.PriceRow.{PriceRow}
 use Rattle.counters.specs.Tables.{Lawful}
@@ -35,11 +35,12 @@ passes r rs least i h =
     (λ (e : is-priced r ≡ false). absurd (both-ways true (rw e at h) refl))
     (cases-bool (is-priced r))
 
-pub none-bad : (rows : List PriceRow) → isSome (prices-outcome rows) ≡ false → isSome (first-bad rows 0 0) ≡ false
-none-bad rs h =
+-- Rows that are not refused are few and good.
+pub few-good : (rows : List PriceRow) → isSome (prices-outcome rows) ≡ false → (length rows ≤ 2000) × (isSome (first-bad rows 0 0) ≡ false)
+few-good rs h =
     ⊎-elim
     (λ (e : ltb 2000 (length rs) ≡ true). absurd (both-ways true (rw e at h) refl))
-    (λ (e : ltb 2000 (length rs) ≡ false). rw e at h)
+    (λ (e : ltb 2000 (length rs) ≡ false). (ltb-false 2000 (length rs) e, rw e at h))
     (cases-bool (ltb 2000 (length rs)))
 
 amounts : (rows : List PriceRow) (least i : ℕ) → isSome (first-bad rows least i) ≡ false → (q n : ℕ) → price-table rows q ≡ Some n → n ≤ top
@@ -57,4 +58,4 @@ above (r ∷ rs) least i h q big =
     cond-false (eqb (r .article) q) _ _ (ne-eqb (r .article) q (λ same. omega (arith, p .article))) ∙ above rs (r .article + 1) (i + 1) (p .rest) q big
 
 pub prices-lawful : (rows : List PriceRow) → isSome (prices-outcome rows) ≡ false → Lawful (price-table rows)
-prices-lawful rs h = record { amounts = amounts rs 0 0 (none-bad rs h); above = above rs 0 0 (none-bad rs h) }
+prices-lawful rs h = record { amounts = amounts rs 0 0 (few-good rs h .1); above = above rs 0 0 (few-good rs h .1) }

@@ -15,3 +15,8 @@ pub record Lawful (table : Table) : Type 0 where
   pub amounts : (question amount : ℕ) → table question ≡ Some amount → amount ≤ top
   -- A question above top has no amount.
   pub above : (question : ℕ) → top < question → table question ≡ None
+
+-- The amount of an entry, and 0 where there is none.
+abbrev pub amount-or-zero : Option ℕ → ℕ
+amount-or-zero (Some amount) = amount
+amount-or-zero None = 0

@@ -7,6 +7,7 @@ mod line;
 mod price;
 mod prices;
 mod refusal;
+mod slots;
 mod split;
 
 pub use basket::Basket;

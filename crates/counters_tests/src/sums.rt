@@ -2,7 +2,7 @@
 ghost use mathlib.Core.Path.{_≡_};
 ghost use Prim.Native.Nat.{_+_, _≤_};
 ghost use Rattle.rows.specs.Limits.{top};
-ghost use Rattle.counters_tests.specs.Sums.{«amount-or-zero»};
+ghost use Rattle.counters.specs.Tables.{«amount-or-zero»};
 use counters::Counter;
 
 // The amount for a question, and 0 where there is none.

@@ -2,6 +2,7 @@
 ghost use mathlib.Core.Path.{_≡_};
 ghost use mathlib.Core.Bool.{true, false};
 ghost use mathlib.Core.List.{[]};
+ghost use Rattle.std.specs.Options.{isSome};
 ghost use Rattle.std.specs.Results.{isOk};
 ghost use Rattle.counters.specs.Refusals.{outcome};
 ghost use Rattle.counters.specs.PriceLists.{«is-priced», «first-bad», «prices-outcome», «price-table»};
@@ -11,6 +12,7 @@ use crate::price::PriceRow;
 use crate::prices::MOST_ROWS;
 use crate::prices::Prices;
 use crate::refusal::Refusal;
+use crate::slots::put;
 use rows::TOP;
 
 impl PriceRow {
@@ -40,6 +42,16 @@ fn check_rows(rows: &[PriceRow]) -> Result<(), Refusal>
     Ok(())
 }
 
+// Refuses rows that no price list holds.
+fn check(rows: &[PriceRow]) -> Result<(), Refusal>
+    ensures { λ r. ⌜ outcome r ≡ «prices-outcome» (now (rows .entry)) ⌝ }
+{
+    if rows.len() > MOST_ROWS {
+        return Err(Refusal::TooManyRows);
+    }
+    check_rows(rows)
+}
+
 impl Prices {
     // The empty price list.
     pub fn new() -> Prices
@@ -54,18 +66,23 @@ impl Prices {
         }
     }
 
+    // Puts rows that are not refused in the place of these.
+    fn hold(&mut self, rows: &[PriceRow])
+        requires { ⌜ isSome («prices-outcome» (now rows)) ≡ false ⌝ }
+        ensures { λ _. ⌜ «of-prices» (now (self .exit)) ≡ «price-table» (now (rows .entry)) ⌝ }
+    {
+        put(&mut self.rows, rows);
+        self.len = rows.len();
+    }
+
     // Makes this the list of these rows, or refuses them and leaves it as it was.
     pub fn fill(&mut self, rows: &[PriceRow]) -> Result<(), Refusal>
         ensures result { λ r. ⌜ outcome r ≡ «prices-outcome» (now (rows .entry)) ⌝ }
         ensures filled { λ r. ⌜ (isOk r ≡ true → «of-prices» (now (self .exit)) ≡ «price-table» (now (rows .entry))) ⌝ }
         ensures kept { λ r. ⌜ (isOk r ≡ false → now (self .exit) ≡ now (self .entry)) ⌝ }
     {
-        if rows.len() > MOST_ROWS {
-            return Err(Refusal::TooManyRows);
-        }
-        check_rows(rows)?;
-        self.rows[0..rows.len()].copy_from_slice(rows);
-        self.len = rows.len();
+        check(rows)?;
+        self.hold(rows);
         Ok(())
     }
 }

@@ -1,5 +1,5 @@
 use mathlib.Core.Path.{sym, ap}
-use Rattle.counters_tests.specs.Sums.{amount-or-zero}
+use Rattle.counters.specs.Tables.{amount-or-zero}
 use Rattle.counters_tests.proofs.sums.amount_of.Needs as need
 
 pub returns-in-Some : need.returns-in-Some
