@@ -8,6 +8,7 @@ use Rattle.std.specs.shelf.Lists.{sumBy, countBy}
 use Rattle.std.specs.declared.option.Option.{Option}
 use Rattle.std.specs.declared.option.Option.the-variants.{Some, None}
 use Rattle.counters.specs.declared.line.Line.{Line}
+use Rattle.counters.specs.Limits.{most-lines, largest-field}
 use Rattle.counters.specs.Tables.{Table, amount-or-zero}
 use Rattle.counters.specs.Refusals.{Outcome}
 
@@ -29,7 +30,7 @@ with-line article so-far line = cond (is-of article line) (Some (amount-or-zero 
 
 -- Whether both fields of a line are at most 9,999.
 abbrev pub is-small : Line → Bool
-is-small line = leb (line .article) 9999 && leb (line .quantity) 9999
+is-small line = leb (line .article) largest-field && leb (line .quantity) largest-field
 
 -- 32 at the first line with a field above 9,999, where the first of these lines has place i.
 abbrev pub first-large : List Line → ℕ → Outcome
@@ -38,4 +39,4 @@ first-large (line ∷ lines) i = cond (is-small line) (first-large lines (i + 1)
 
 -- 31 above 200 lines, and then 32 at the first line with a field above 9,999.
 abbrev pub basket-outcome : List Line → Outcome
-basket-outcome lines = cond (ltb 200 (length lines)) (Some (31, 200)) (first-large lines 0)
+basket-outcome lines = cond (ltb most-lines (length lines)) (Some (31, most-lines)) (first-large lines 0)

@@ -12,12 +12,13 @@ use Rattle.std.specs.declared.option.Option.the-variants.{Some, None}
 use Rattle.std.proofs.shelf.Tests.{leb-true, ltb-false, ne-eqb, cases-bool, cond-false, and-parts, both-ways, cond-both}
 use Rattle.rows.specs.Limits.{top}
 use Rattle.counters.specs.declared.price.PriceRow.{PriceRow}
+use Rattle.counters.specs.Limits.{most-rows, largest-field}
 use Rattle.counters.specs.Tables.{Lawful}
 use Rattle.counters.specs.PriceLists.{is-priced, first-bad, prices-outcome, price-table}
 
 -- A row that is not refused, and rows behind it that are not.
 pub record Passes (row : PriceRow) (rows : List PriceRow) (least i : ℕ) : Type 0 where
-  pub article : row .article ≤ 9999
+  pub article : row .article ≤ largest-field
   pub price : row .price ≤ top
   pub order : least ≤ row .article
   pub rest : isSome (first-bad rows (row .article + 1) (i + 1)) ≡ false
@@ -26,7 +27,7 @@ pub passes : (row : PriceRow) (rows : List PriceRow) (least i : ℕ) → isSome 
 passes r rs least i h =
     ⊎-elim
     (λ (e : is-priced r ≡ true).
-    let p = and-parts (leb (r .article) 9999) (leb (r .price) top) e in
+    let p = and-parts (leb (r .article) largest-field) (leb (r .price) top) e in
     let h′ = rw e at h in
     ⊎-elim
     (λ (f : leb least (r .article) ≡ true). record { article = leb-true _ _ (p .0); price = leb-true _ _ (p .1); order = leb-true _ _ f; rest = rw f at h′ })
@@ -36,12 +37,12 @@ passes r rs least i h =
     (cases-bool (is-priced r))
 
 -- Rows that are not refused are few and good.
-pub few-good : (rows : List PriceRow) → isSome (prices-outcome rows) ≡ false → (length rows ≤ 2000) × (isSome (first-bad rows 0 0) ≡ false)
+pub few-good : (rows : List PriceRow) → isSome (prices-outcome rows) ≡ false → (length rows ≤ most-rows) × (isSome (first-bad rows 0 0) ≡ false)
 few-good rs h =
     ⊎-elim
-    (λ (e : ltb 2000 (length rs) ≡ true). absurd (both-ways true (rw e at h) refl))
-    (λ (e : ltb 2000 (length rs) ≡ false). (ltb-false 2000 (length rs) e, rw e at h))
-    (cases-bool (ltb 2000 (length rs)))
+    (λ (e : ltb most-rows (length rs) ≡ true). absurd (both-ways true (rw e at h) refl))
+    (λ (e : ltb most-rows (length rs) ≡ false). (ltb-false most-rows (length rs) e, rw e at h))
+    (cases-bool (ltb most-rows (length rs)))
 
 amounts : (rows : List PriceRow) (least i : ℕ) → isSome (first-bad rows least i) ≡ false → (q n : ℕ) → price-table rows q ≡ Some n → n ≤ top
 amounts [] least i h q n = λ e. let z : _≡_ {A = ℕ} 0 1 = cc in omega arith

@@ -1,3 +1,4 @@
+pub mod Limits
 pub mod Tables
 pub mod Refusals
 pub mod Baskets

@@ -7,6 +7,7 @@ use lib.ListN.{length}
 use Rattle.std.specs.declared.option.Option.the-variants.{Some, None}
 use Rattle.rows.specs.Limits.{top}
 use Rattle.counters.specs.declared.price.PriceRow.{PriceRow}
+use Rattle.counters.specs.Limits.{most-rows, largest-field}
 use Rattle.counters.specs.Tables.{Table}
 use Rattle.counters.specs.Refusals.{Outcome}
 
@@ -17,7 +18,7 @@ price-table (row ∷ rows) article = cond (eqb (row .article) article) (Some (ro
 
 -- Whether a row's article is at most 9,999 and its price an amount.
 abbrev pub is-priced : PriceRow → Bool
-is-priced row = leb (row .article) 9999 && leb (row .price) top
+is-priced row = leb (row .article) largest-field && leb (row .price) top
 
 -- At the first bad row 34 for a field out of range, else 35 for an article that is not above the row before,
 -- where the first of these rows has place i and may have no article below least.
@@ -28,4 +29,4 @@ first-bad (row ∷ rows) least i =
 
 -- 33 above 2,000 rows, and then 34 or 35 at the first bad row. Every article may stand in the first row.
 abbrev pub prices-outcome : List PriceRow → Outcome
-prices-outcome rows = cond (ltb 2000 (length rows)) (Some (33, 2000)) (first-bad rows 0 0)
+prices-outcome rows = cond (ltb most-rows (length rows)) (Some (33, most-rows)) (first-bad rows 0 0)

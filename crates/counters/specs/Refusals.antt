@@ -4,14 +4,15 @@ use Rattle.std.specs.declared.option.Option.{Option}
 use Rattle.std.specs.declared.option.Option.the-variants.{Some, None}
 use Rattle.std.specs.declared.result.Result.{Result}
 use Rattle.std.specs.declared.result.Result.the-variants.{Ok, Err}
+use Rattle.counters.specs.Limits.{most-lines, most-rows}
 use Rattle.counters.specs.declared.refusal.Refusal.{Refusal}
 use Rattle.counters.specs.declared.refusal.Refusal.the-variants.{TooManyLines, LargeLine, TooManyRows, LargeRow, RowOrder}
 
 -- The number and the place by which a refusal is told.
 abbrev pub told : Refusal → ℕ × ℕ
-told TooManyLines = (31, 200)
+told TooManyLines = (31, most-lines)
 told (LargeLine i) = (32, i)
-told TooManyRows = (33, 2000)
+told TooManyRows = (33, most-rows)
 told (LargeRow i) = (34, i)
 told (RowOrder i) = (35, i)
 

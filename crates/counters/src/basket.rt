@@ -4,6 +4,7 @@ ghost use mathlib.Core.Bool.{false};
 ghost use Prim.Native.Nat.{_≤_};
 ghost use lib.ListN.{take};
 ghost use Rattle.std.specs.Options.{isSome};
+ghost use Rattle.counters.specs.Limits.{«most-lines»};
 ghost use Rattle.counters.specs.Baskets.{«basket-outcome»};
 use crate::line::Line;
 
@@ -18,6 +19,6 @@ pub const MOST_LINES: usize = 200;
 pub struct Basket {
     lines: [Line; MOST_LINES],
     len: usize,
-    ghost few: { len ≤ 200 },
+    ghost few: { len ≤ «most-lines» },
     ghost lawful: { isSome («basket-outcome» (take len lines)) ≡ false },
 }

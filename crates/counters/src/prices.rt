@@ -4,6 +4,7 @@ ghost use mathlib.Core.Bool.{false};
 ghost use Prim.Native.Nat.{_≤_};
 ghost use lib.ListN.{take};
 ghost use Rattle.std.specs.Options.{isSome};
+ghost use Rattle.counters.specs.Limits.{«most-rows»};
 ghost use Rattle.counters.specs.PriceLists.{«prices-outcome»};
 use crate::price::PriceRow;
 
@@ -18,6 +19,6 @@ pub const MOST_ROWS: usize = 2_000;
 pub struct Prices {
     rows: [PriceRow; MOST_ROWS],
     len: usize,
-    ghost few: { len ≤ 2000 },
+    ghost few: { len ≤ «most-rows» },
     ghost lawful: { isSome («prices-outcome» (take len rows)) ≡ false },
 }

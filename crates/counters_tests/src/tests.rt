@@ -4,6 +4,7 @@ mod makers;
 mod price_lists;
 mod refusals;
 mod splits;
+mod tills;
 
 use counters::Line;
 use counters::PriceRow;
