@@ -1,0 +1,11 @@
+pub mod Limits
+pub mod Tables
+pub mod Refusals
+pub mod Baskets
+pub mod PriceLists
+pub mod Splits
+pub mod Meanings
+pub mod LawfulBaskets
+pub mod LawfulPrices
+pub mod LawfulSplits
+pub mod LawfulMeanings

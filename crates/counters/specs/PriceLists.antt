@@ -1,0 +1,32 @@
+-- What rows mean as a price list, and when they are refused.
+use mathlib.Core.List.{List, [], _∷_}
+use mathlib.Core.Bool.{Bool, cond, _&&_}
+use Prim.Native.Nat.{ℕ, _+_}
+use lib.Dec.{eqb, leb, ltb}
+use lib.ListN.{length}
+use Rattle.std.specs.declared.option.Option.the-variants.{Some, None}
+use Rattle.rows.specs.Limits.{top}
+use Rattle.counters.specs.declared.price.PriceRow.{PriceRow}
+use Rattle.counters.specs.Limits.{most-rows, largest-field}
+use Rattle.counters.specs.Tables.{Table}
+use Rattle.counters.specs.Refusals.{Outcome}
+
+-- The price in the article's row; nothing without a row.
+abbrev pub price-table : List PriceRow → Table
+price-table [] article = None
+price-table (row ∷ rows) article = cond (eqb (row .article) article) (Some (row .price)) (price-table rows article)
+
+-- Whether a row's article is at most 9,999 and its price an amount.
+abbrev pub is-priced : PriceRow → Bool
+is-priced row = leb (row .article) largest-field && leb (row .price) top
+
+-- At the first bad row 34 for a field out of range, else 35 for an article that is not above the row before,
+-- where the first of these rows has place i and may have no article below least.
+abbrev pub first-bad : List PriceRow → ℕ → ℕ → Outcome
+first-bad [] least i = None
+first-bad (row ∷ rows) least i =
+    cond (is-priced row) (cond (leb least (row .article)) (first-bad rows (row .article + 1) (i + 1)) (Some (35, i))) (Some (34, i))
+
+-- 33 above 2,000 rows, and then 34 or 35 at the first bad row. Every article may stand in the first row.
+abbrev pub prices-outcome : List PriceRow → Outcome
+prices-outcome rows = cond (ltb most-rows (length rows)) (Some (33, most-rows)) (first-bad rows 0 0)

@@ -1,0 +1,3 @@
+pub mod UpTo
+pub mod Points
+pub mod Asked
