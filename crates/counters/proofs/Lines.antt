@@ -16,15 +16,14 @@ use Rattle.std.proofs.shelf.Sums.{sumBy-cons, sumBy-more, sumBy-take-le, countB
 use Rattle.std.proofs.shelf.Tests.{ltb-false, lt-ltb, cases-bool, cond-both, cond-true, cond-false}
 use Rattle.counters.specs.declared.line.Line.{Line}
 use Rattle.counters.specs.Tables.{amount-or-zero}
-use Rattle.counters.specs.Baskets.{is-of, adds, is-small, first-large, basket-outcome, basket-table, with-line}
+use Rattle.counters.specs.Refusals.{Outcome, earlier}
+use Rattle.counters.specs.Baskets.{is-of, adds, line-fault, first-large, basket-outcome, basket-table, with-line}
 use Rattle.counters.specs.LawfulBaskets.{Small, few-small, sum-small}
 
--- One small line more, a large one, the end.
-pub large-more : (lines : List Line) (i : ℕ) (d : Line) → i < length lines → is-small (getD lines i d) ≡ true → first-large (drop (i + 1) lines) (i + 1) ≡ first-large (drop i lines) i
-large-more ls i d h e = sym (at-drop-more (λ xs. first-large xs i) ls i d h ∙ cond-true (is-small (getD ls i d)) _ _ e)
-
-pub large-here : (lines : List Line) (i : ℕ) (d : Line) → i < length lines → is-small (getD lines i d) ≡ false → Some (32, i) ≡ first-large (drop i lines) i
-large-here ls i d h e = sym (at-drop-more (λ xs. first-large xs i) ls i d h ∙ cond-false (is-small (getD ls i d)) _ _ e)
+-- A line more, with a fault or with none, and the end.
+pub large-here : (lines : List Line) (i : ℕ) (d : Line) → i < length lines → (o : Outcome) → o ≡ line-fault (getD lines i d) i → earlier o (first-large (drop (i + 1) lines) (i + 1)) ≡ first-large (drop i lines) i
+large-here ls i d inside o e =
+    ap (λ x. earlier x (first-large (drop (i + 1) ls) (i + 1))) e ∙ sym (at-drop-more (λ xs. first-large xs i) ls i d inside)
 
 pub large-end : (lines : List Line) (i : ℕ) → length lines ≤ i → None ≡ first-large (drop i lines) i
 large-end ls i h = sym (at-drop-all (λ xs. first-large xs i) ls i h)

@@ -1,34 +1,26 @@
 -- What passes over rows find of their refusal and of their table.
-use mathlib.Core.Path.{_≡_, refl, sym, _∙_}
+use mathlib.Core.Path.{_≡_, refl, sym, ap, _∙_}
 use mathlib.Core.List.{List, [], _∷_}
-use mathlib.Core.Bool.{true, false}
+use mathlib.Core.Bool.{false}
 use mathlib.Core.Logic.{⊎-elim}
 use Prim.Native.Nat.{ℕ, zero, suc, _+_, _-_, _/_, _<_, _≤_}
 use native.Mathlib.Omega.{arith}
-use lib.Dec.{eqb, leb}
+use lib.Dec.{eqb}
 use lib.ListN.{length, getD, drop}
 use Rattle.std.specs.Options.{isSome}
 use Rattle.std.specs.declared.option.Option.the-variants.{Some, None}
 use Rattle.std.proofs.shelf.Lists.{at-drop-more, at-drop-all}
-use Rattle.std.proofs.shelf.Tests.{le-leb, lt-leb, ne-eqb, eq-eqb, cases-lt, cond-true, cond-false}
+use Rattle.std.proofs.shelf.Tests.{ne-eqb, eq-eqb, cases-lt, cond-true, cond-false}
 use Rattle.counters.specs.declared.price.PriceRow.{PriceRow}
-use Rattle.counters.specs.PriceLists.{price-table, is-priced, first-bad, prices-outcome}
+use Rattle.counters.specs.Refusals.{Outcome, earlier}
+use Rattle.counters.specs.PriceLists.{price-table, row-fault, first-bad, prices-outcome}
 use Rattle.counters.specs.LawfulPrices.{passes, few-good}
 use Rattle.counters.proofs.Looks.{digits, fewer}
 
--- One good row more, one with a field out of range, one out of order, the end.
-module _ (rows : List PriceRow) (least i : ℕ) (d : PriceRow) (inside : i < length rows) where
-  here : first-bad (drop i rows) least i ≡ first-bad (getD rows i d ∷ drop (i + 1) rows) least i
-  here = at-drop-more (λ xs. first-bad xs least i) rows i d inside
-
-  pub bad-more : is-priced (getD rows i d) ≡ true → least ≤ getD rows i d .article → first-bad (drop (i + 1) rows) (getD rows i d .article + 1) (i + 1) ≡ first-bad (drop i rows) least i
-  bad-more e f = sym (here ∙ cond-true (is-priced (getD rows i d)) _ _ e ∙ cond-true (leb least (getD rows i d .article)) _ _ (le-leb least (getD rows i d .article) f))
-
-  pub bad-field : is-priced (getD rows i d) ≡ false → Some (34, i) ≡ first-bad (drop i rows) least i
-  bad-field e = sym (here ∙ cond-false (is-priced (getD rows i d)) _ _ e)
-
-  pub bad-order : is-priced (getD rows i d) ≡ true → getD rows i d .article < least → Some (35, i) ≡ first-bad (drop i rows) least i
-  bad-order e f = sym (here ∙ cond-true (is-priced (getD rows i d)) _ _ e ∙ cond-false (leb least (getD rows i d .article)) _ _ (lt-leb least (getD rows i d .article) f))
+-- A row more, with a fault or with none, and the end.
+pub bad-here : (rows : List PriceRow) (least i : ℕ) (d : PriceRow) → i < length rows → (o : Outcome) → o ≡ row-fault (getD rows i d) least i → earlier o (first-bad (drop (i + 1) rows) (getD rows i d .article + 1) (i + 1)) ≡ first-bad (drop i rows) least i
+bad-here rs least i d inside o e =
+    ap (λ x. earlier x (first-bad (drop (i + 1) rs) (getD rs i d .article + 1) (i + 1))) e ∙ sym (at-drop-more (λ xs. first-bad xs least i) rs i d inside)
 
 pub bad-end : (rows : List PriceRow) (least i : ℕ) → length rows ≤ i → None ≡ first-bad (drop i rows) least i
 bad-end rs least i h = sym (at-drop-all (λ xs. first-bad xs least i) rs i h)

@@ -10,7 +10,7 @@ use Rattle.std.specs.declared.option.Option.the-variants.{Some, None}
 use Rattle.counters.specs.declared.line.Line.{Line}
 use Rattle.counters.specs.Limits.{most-lines, largest-field}
 use Rattle.counters.specs.Tables.{Table, amount-or-zero}
-use Rattle.counters.specs.Refusals.{Outcome}
+use Rattle.counters.specs.Refusals.{Outcome, earlier}
 
 -- Whether a line is one of an article.
 abbrev pub is-of : ℕ → Line → Bool
@@ -32,10 +32,14 @@ with-line article so-far line = cond (is-of article line) (Some (amount-or-zero 
 abbrev pub is-small : Line → Bool
 is-small line = leb (line .article) largest-field && leb (line .quantity) largest-field
 
--- 32 at the first line with a field above 9,999, where the first of these lines has place i.
+-- 32 at place i for a line with a field above 9,999.
+abbrev pub line-fault : Line → ℕ → Outcome
+line-fault line i = cond (is-small line) None (Some (32, i))
+
+-- The first fault of these lines, of which the first has place i.
 abbrev pub first-large : List Line → ℕ → Outcome
 first-large [] i = None
-first-large (line ∷ lines) i = cond (is-small line) (first-large lines (i + 1)) (Some (32, i))
+first-large (line ∷ lines) i = earlier (line-fault line i) (first-large lines (i + 1))
 
 -- 31 above 200 lines, and then 32 at the first line with a field above 9,999.
 abbrev pub basket-outcome : List Line → Outcome

@@ -1,5 +1,4 @@
 -- The tables of a basket and of a price list.
-use Prim.Native.Nat.{ℕ}
 use lib.ListN.{take}
 use Rattle.counters.specs.declared.basket.Basket.{Basket}
 use Rattle.counters.specs.declared.prices.Prices.{Prices}

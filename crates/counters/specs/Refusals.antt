@@ -24,3 +24,8 @@ Outcome = Option (ℕ × ℕ)
 abbrev pub outcome : {A : Type 0} → Result A Refusal → Outcome
 outcome (Ok _) = None
 outcome (Err refusal) = Some (told refusal)
+
+-- The first refusal of two.
+abbrev pub earlier : Outcome → Outcome → Outcome
+earlier (Some refused) other = Some refused
+earlier None other = other

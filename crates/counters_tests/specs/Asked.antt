@@ -10,7 +10,7 @@ use Rattle.counters.specs.declared.line.Line.{Line}
 use Rattle.counters.specs.declared.price.PriceRow.{PriceRow}
 use Rattle.counters.specs.declared.refusal.Refusal.{Refusal}
 use Rattle.counters.specs.Tables.{Table}
-use Rattle.counters.specs.Refusals.{Outcome, told}
+use Rattle.counters.specs.Refusals.{told, earlier}
 use Rattle.counters.specs.Baskets.{basket-outcome, basket-table}
 use Rattle.counters.specs.PriceLists.{prices-outcome, price-table}
 use Rattle.counters.specs.Splits.{split-table}
@@ -18,11 +18,6 @@ use Rattle.counters.specs.Splits.{split-table}
 -- The table of both lists.
 abbrev pub till-table : List Line → List PriceRow → Table
 till-table lines rows = split-table 10000 (basket-table lines) (price-table rows)
-
--- The first refusal of two makings.
-abbrev pub earlier : Outcome → Outcome → Outcome
-earlier (Some refused) other = Some refused
-earlier None other = other
 
 -- The entry of the table where neither list is refused, else the first refusal.
 abbrev pub Asked : Result (Option ℕ) Refusal → List Line → List PriceRow → ℕ → Type 0

@@ -5,7 +5,7 @@ ghost use mathlib.Core.List.{[]};
 ghost use Rattle.std.specs.Options.{isSome};
 ghost use Rattle.std.specs.Results.{isOk};
 ghost use Rattle.counters.specs.Refusals.{outcome};
-ghost use Rattle.counters.specs.Baskets.{«is-small», «first-large», «basket-outcome», «basket-table»};
+ghost use Rattle.counters.specs.Baskets.{«line-fault», «first-large», «basket-outcome», «basket-table»};
 ghost use Rattle.counters.specs.Meanings.{«of-basket»};
 use crate::basket::Basket;
 use crate::basket::MOST_LINES;
@@ -14,13 +14,14 @@ use crate::line::Line;
 use crate::refusal::Refusal;
 use crate::slots::put;
 
-impl Line {
-    // Whether both fields are in range.
-    fn is_small(self) -> bool
-        ensures { λ r. ⌜ r ≡ «is-small» self ⌝ }
-    {
-        self.article <= LARGEST_FIELD && self.quantity <= LARGEST_FIELD
+// Refuses a line with a field out of range.
+fn check_line(line: Line, place: usize) -> Result<(), Refusal>
+    ensures { λ r. ⌜ outcome r ≡ «line-fault» line place ⌝ }
+{
+    if line.article > LARGEST_FIELD || line.quantity > LARGEST_FIELD {
+        return Err(Refusal::LargeLine(place));
     }
+    Ok(())
 }
 
 // Refuses at the first line with a field out of range.
@@ -28,9 +29,7 @@ fn check_fields(lines: &[Line]) -> Result<(), Refusal>
     ensures { λ r. ⌜ outcome r ≡ «first-large» (now (lines .entry)) 0 ⌝ }
 {
     for (i, line) in lines.iter().enumerate() {
-        if !line.is_small() {
-            return Err(Refusal::LargeLine(i));
-        }
+        check_line(*line, i)?;
     }
     Ok(())
 }

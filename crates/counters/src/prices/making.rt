@@ -2,10 +2,12 @@
 ghost use mathlib.Core.Path.{_≡_};
 ghost use mathlib.Core.Bool.{true, false};
 ghost use mathlib.Core.List.{[]};
+ghost use Prim.Native.Nat.{_≤_};
 ghost use Rattle.std.specs.Options.{isSome};
 ghost use Rattle.std.specs.Results.{isOk};
+ghost use Rattle.counters.specs.Limits.{«largest-field»};
 ghost use Rattle.counters.specs.Refusals.{outcome};
-ghost use Rattle.counters.specs.PriceLists.{«is-priced», «first-bad», «prices-outcome», «price-table»};
+ghost use Rattle.counters.specs.PriceLists.{«row-fault», «first-bad», «prices-outcome», «price-table»};
 ghost use Rattle.counters.specs.Meanings.{«of-prices»};
 use crate::line::LARGEST_FIELD;
 use crate::price::PriceRow;
@@ -15,28 +17,27 @@ use crate::refusal::Refusal;
 use crate::slots::put;
 use rows::TOP;
 
-impl PriceRow {
-    // Whether both fields are in range.
-    fn is_priced(self) -> bool
-        ensures { λ r. ⌜ r ≡ «is-priced» self ⌝ }
-    {
-        self.article <= LARGEST_FIELD && self.price <= TOP
+// Refuses a row with a field out of range, or else with an article below the least that it may have.
+fn check_row(row: PriceRow, least: u32, place: usize) -> Result<(), Refusal>
+    ensures fault { λ r. ⌜ outcome r ≡ «row-fault» row least place ⌝ }
+    ensures small { λ r. ⌜ (isOk r ≡ true → row .article ≤ «largest-field») ⌝ }
+{
+    if row.article > LARGEST_FIELD || row.price > TOP {
+        return Err(Refusal::LargeRow(place));
     }
+    if row.article < least {
+        return Err(Refusal::RowOrder(place));
+    }
+    Ok(())
 }
 
-// Refuses at the first row with a field out of range or with an article not above the one before.
+// Refuses at the first bad row. An article has to be above the one before.
 fn check_rows(rows: &[PriceRow]) -> Result<(), Refusal>
     ensures { λ r. ⌜ outcome r ≡ «first-bad» (now (rows .entry)) 0 0 ⌝ }
 {
-    // the least article that the next row may have
     let mut least: u32 = 0;
     for (i, row) in rows.iter().enumerate() {
-        if !row.is_priced() {
-            return Err(Refusal::LargeRow(i));
-        }
-        if row.article < least {
-            return Err(Refusal::RowOrder(i));
-        }
+        check_row(*row, least, i)?;
         least = row.article + 1;
     }
     Ok(())

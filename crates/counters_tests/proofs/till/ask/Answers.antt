@@ -3,11 +3,11 @@ use denote.Ref.{RefT}
 use Rattle.counters.specs.declared.basket.Basket.{Basket}
 use Rattle.counters.specs.declared.prices.Prices.{Prices}
 use Rattle.counters.specs.declared.split.Split.{Split}
+use Rattle.counters.specs.Refusals.{earlier}
 use Rattle.counters.specs.Baskets.{basket-table}
-use Rattle.counters.specs.PriceLists.{prices-outcome, price-table}
+use Rattle.counters.specs.PriceLists.{prices-outcome}
 use Rattle.counters.specs.Splits.{split-table}
 use Rattle.counters.specs.Meanings.{of-basket, of-prices}
-use Rattle.counters_tests.specs.Asked.{earlier}
 use Rattle.counters_tests.proofs.till.ask.Needs as need
 
 pub returns : need.returns

@@ -1,6 +1,5 @@
-use mathlib.Core.Path.{sym, ap, subst, _∙_}
+use mathlib.Core.Path.{ap, _∙_}
 use native.Mathlib.Omega.{arith}
-use Prim.Native.Nat.{_+_, _^_, _<_}
 use lib.ListN.{getD}
 use Rattle.std.proofs.shelf.Lists.{take-all}
 use Rattle.counters.specs.declared.line.Line.{Line}

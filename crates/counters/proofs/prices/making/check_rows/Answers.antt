@@ -1,25 +1,20 @@
-use mathlib.Core.Path.{sym}
-use native.Mathlib.Omega.{arith}
+use mathlib.Core.Path.{_∙_}
+use Rattle.std.proofs.shelf.Results.{err-from-errBy}
 use Rattle.counters.specs.declared.price.PriceRow.{PriceRow}
-use Rattle.counters.proofs.PriceRows.{bad-more, bad-field, bad-order, bad-end}
+use Rattle.counters.proofs.PriceRows.{bad-here, bad-end}
 use Rattle.counters.proofs.prices.making.check_rows.Needs as need
 
 abbrev none : PriceRow
 none = record { article = 0; price = 0 }
 
-pub returns-then-not-is-priced : need.returns-then-not-is-priced
-returns-then-not-is-priced c =
-    let field = bad-field (c .args .rows .now) (c .loop-i .least) (c .loop-i .i) none (c .loop-i-test .taken) (sym (c .if-not-is-priced .ensures tt)) in cc
-
-pub returns-then-row-least : need.returns-then-row-least
-returns-then-row-least c =
-    let order = bad-order (c .args .rows .now) (c .loop-i .least) (c .loop-i .i) none (c .loop-i-test .taken) (sym (c .if-not-is-priced .ensures tt)) (omega (arith, c .if-row-least .taken)) in
-    cc
+pub returns-in-Break-check-row : need.returns-in-Break-check-row
+returns-in-Break-check-row c =
+    let p = err-from-errBy (c .from-residual .result) (c .from-residual .ensures .1) in
+    rw (p .1, p .2) (bad-here (c .args .rows .now) (c .loop-i .least) (c .loop-i .i) none (c .loop-i-test .taken) _ (c .in-Break-check-row .ensures tt .fault) ∙ c .loop-i .inv)
 
 pub loop-i-again : need.loop-i-again
 loop-i-again c =
-    let more = bad-more (c .args .rows .now) (c .loop-i .least) (c .loop-i .i) none (c .loop-i-test .taken) (sym (c .if-not-is-priced .ensures tt)) (omega (arith, c .if-row-least .left)) in
-    cc
+    bad-here (c .args .rows .now) (c .loop-i .least) (c .loop-i .i) none (c .loop-i-test .taken) _ (c .in-Continue-check-row .ensures tt .fault) ∙ c .loop-i .inv
 
 pub returns : need.returns
-returns c = let end = bad-end (c .args .rows .now) (c .loop-i .least) (c .loop-i .i) (c .loop-i-test .left) in cc
+returns c = bad-end (c .args .rows .now) (c .loop-i .least) (c .loop-i .i) (c .loop-i-test .left) ∙ c .loop-i .inv
