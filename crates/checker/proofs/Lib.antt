@@ -1,0 +1,10 @@
+pub mod Lows
+pub mod Counts
+pub mod Folding
+pub mod Placing
+pub mod Deeps
+pub mod Shallows
+pub mod Sights
+pub mod Typings
+pub mod Sheets
+pub mod Lifts

@@ -9,12 +9,12 @@ use Rattle.rows.specs.declared.tables.TermRow.{TermRow}
 use Rattle.rows.specs.declared.forms.Form.{Form}
 use Rattle.rows.specs.declared.forms.Form.the-variants.{Succ, Ifz, Lam, Ap, Fix, Pair, Fst, Snd, Add, Sub, Mul, Get, Fail, Catch}
 use Rattle.rows.specs.Forms.{form-at}
-use Rattle.rows.specs.Rows.{leaf-row}
 use Rattle.theory.specs.Syntax.{Ty, nat, to, both, Term}
 use Rattle.theory.specs.Emit.{Tables}
 use Rattle.theory.specs.Stands.{types-from, term-at}
 use Rattle.theory.specs.Laws.{parts-of}
 use Rattle.theory.specs.Typing.{_⊢_∶_}
+use Rattle.checker.specs.RowTests.{no-row}
 
 -- the types of the names in sight, the nearest first; a name of a lam whose type is no function type has none
 abbrev pub Context : Type 0
@@ -44,7 +44,7 @@ names Fail T = []
 names Catch T = []
 
 abbrev pub row-at : Tables → ℕ → TermRow
-row-at s p = getD (s .1) p (leaf-row 0 0)
+row-at s p = getD (s .1) p no-row
 
 -- the names of part i of a row
 abbrev pub names-of : Tables → TermRow → ℕ → Context

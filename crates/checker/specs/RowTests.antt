@@ -12,6 +12,10 @@ use Rattle.rows.specs.declared.tables.TypeRow.{TypeRow}
 use Rattle.rows.specs.declared.tables.TermRow.{TermRow}
 use Rattle.theory.specs.Laws.{uses}
 
+-- what is read where there is no term row
+abbrev pub no-row : TermRow
+no-row = leaf-row 0 0
+
 -- a function or a pair of types at earlier rows
 abbrev pub compound : ℕ → TypeRow → Bool
 compound p r = (eqb (r .kind) 1 || eqb (r .kind) 2) && (ltb (r .left) p && ltb (r .right) p)
@@ -42,7 +46,7 @@ parts-placed p r =
     && placed (ltb 2 (arity (r .kind))) (r .c) p)
 
 abbrev pub Parts-placed : List TermRow → Type 0
-Parts-placed es = (p : ℕ) → p < length es → parts-placed p (getD es p (leaf-row 0 0)) ≡ true
+Parts-placed es = (p : ℕ) → p < length es → parts-placed p (getD es p no-row) ≡ true
 
 -- what term row p keeps beside n type rows
 abbrev pub good-row : ℕ → ℕ → TermRow → Bool
@@ -53,7 +57,7 @@ good-row n p r =
     && parts-placed p r))
 
 abbrev pub good-term : ℕ → List TermRow → ℕ → Bool
-good-term n es p = good-row n p (getD es p (leaf-row 0 0))
+good-term n es p = good-row n p (getD es p no-row)
 
 -- a row is a part exactly once
 abbrev pub used-once : List TermRow → ℕ → Bool

@@ -61,8 +61,20 @@ pub fn deepest(terms: &[TermRow], limit: usize, p: u32, binders: u32) -> Option<
 {
     let r = terms[p as usize];
     let parts = arity_of(r.kind);
-    let x = if 0 < parts { deepest(terms, limit, r.a, binders + opened(r.kind)) } else { None };
-    let y = if 1 < parts { deepest(terms, limit, r.b, binders) } else { None };
-    let z = if 2 < parts { deepest(terms, limit, r.c, binders + 1) } else { None };
+    let x = if 0 < parts {
+        deepest(terms, limit, r.a, binders + opened(r.kind))
+    } else {
+        None
+    };
+    let y = if 1 < parts {
+        deepest(terms, limit, r.b, binders)
+    } else {
+        None
+    };
+    let z = if 2 < parts {
+        deepest(terms, limit, r.c, binders + 1)
+    } else {
+        None
+    };
     own_after(lower_of(x, lower_of(y, z)), limit, p, binders)
 }

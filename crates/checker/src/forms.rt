@@ -32,11 +32,7 @@ pub fn form_of(kind: u8) -> Form
 pub fn arity_of(kind: u8) -> u8
     ensures { λ r. ⌜ r ≡ arity kind ⌝ }
 {
-    if kind < 2 {
-        0
-    } else {
-        form_of(kind).parts()
-    }
+    if kind < 2 { 0 } else { form_of(kind).parts() }
 }
 
 // Whether they have a type.

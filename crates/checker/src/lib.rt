@@ -15,5 +15,5 @@ pub use refusal::FaultPartialEq;
 pub use refusal::Refusal;
 pub use refusal::RefusalDebug;
 pub use refusal::RefusalPartialEq;
-pub use sheet::check::check;
 pub use sheet::Passed;
+pub use sheet::check::check;

@@ -9,8 +9,8 @@ ghost use Rattle.theory.specs.Laws.{times, «parts-of»};
 ghost use Rattle.checker.specs.Lowest.{lowest};
 ghost use Rattle.checker.specs.RowTests.{«parts-placed», «Parts-placed», «used-once»};
 use crate::forms::arity_of;
-use rows::TermRow;
 use rows::MOST_TERMS;
+use rows::TermRow;
 
 // One more at place p, where it is used.
 fn mark(counts: &mut [u32], used: bool, p: u32)

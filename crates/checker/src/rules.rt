@@ -8,9 +8,9 @@ ghost use Rattle.checker.specs.Lowest.{lowest};
 ghost use Rattle.checker.specs.RowTests.{compound, «good-type», placed, «parts-placed», «good-row», «good-term»};
 use crate::forms::arity_of;
 use crate::forms::has_type;
+use rows::TOP;
 use rows::TermRow;
 use rows::TypeRow;
-use rows::TOP;
 
 fn is_same(x: TypeRow, y: TypeRow) -> bool
     ensures { λ r. ⌜ r ≡ «row-alike» x y ⌝ }
@@ -66,11 +66,7 @@ pub fn bad_type(types: &[TypeRow]) -> Option<u32>
 fn is_placed(used: bool, x: u32, limit: u32) -> bool
     ensures { λ r. ⌜ r ≡ placed used x limit ⌝ }
 {
-    if used {
-        x < limit
-    } else {
-        x == 0
-    }
+    if used { x < limit } else { x == 0 }
 }
 
 fn has_parts_placed(p: u32, r: TermRow) -> bool

@@ -34,11 +34,7 @@ fn row_at(types: &[TypeRow], t: u32) -> TypeRow
 fn needed(holds: bool, t: u32) -> Option<u32>
     ensures { λ r. ⌜ r ≡ need holds t ⌝ }
 {
-    if holds {
-        Some(t)
-    } else {
-        None
-    }
+    if holds { Some(t) } else { None }
 }
 
 // The type of the name that the first part is under, if it is under one.
@@ -98,17 +94,18 @@ fn known_type(name: Option<u32>) -> Option<u32>
 {
     match name {
         None => None,
-        Some(t) => {
-            if t == NO_TYPE {
-                None
-            } else {
-                Some(t)
-            }
-        }
+        Some(t) => { if t == NO_TYPE { None } else { Some(t) } }
     }
 }
 
-fn type_of_row(types: &[TypeRow], r: TermRow, name: Option<u32>, x: u32, y: u32, z: u32) -> Option<u32>
+fn type_of_row(
+    types: &[TypeRow],
+    r: TermRow,
+    name: Option<u32>,
+    x: u32,
+    y: u32,
+    z: u32,
+) -> Option<u32>
     ensures { λ o. ⌜ o ≡ «own-type» (now (types .entry)) r name x y z ⌝ }
 {
     if r.kind == 0 {
@@ -161,7 +158,11 @@ fn join(
     ensures { λ o. ⌜ o ≡ joined (now (types .entry)) p r name x y z ⌝ }
 {
     let low = lower_of(fault_of(x), lower_of(fault_of(y), fault_of(z)));
-    settle(p, low, type_of_row(types, r, name, type_in_of(x), type_in_of(y), type_in_of(z)))
+    settle(
+        p,
+        low,
+        type_of_row(types, r, name, type_in_of(x), type_in_of(y), type_in_of(z)),
+    )
 }
 
 // One name more in sight, where one is bound.
@@ -187,7 +188,12 @@ fn leave(names: &mut Stack<u32>, bound: Option<u32>)
 
 // The type of the term at row p with these names in sight, or its lowest row without one. It visits each row of the term
 // once, since each is a part once.
-pub fn type_of(types: &[TypeRow], terms: &[TermRow], names: &mut Stack<u32>, p: u32) -> Result<u32, u32>
+pub fn type_of(
+    types: &[TypeRow],
+    terms: &[TermRow],
+    names: &mut Stack<u32>,
+    p: u32,
+) -> Result<u32, u32>
     requires placed { ⌜ «Parts-placed» (now terms) ⌝ }
     requires within { ⌜ p < length (now terms) ⌝ }
     requires deep { ⌜ «deep-at» (room (now names)) (now terms) p (length (view (now names))) ≡ None ⌝ }
@@ -207,7 +213,11 @@ pub fn type_of(types: &[TypeRow], terms: &[TermRow], names: &mut Stack<u32>, p: 
     } else {
         Ok(0)
     };
-    let y = if 1 < parts { type_of(types, terms, names, r.b) } else { Ok(0) };
+    let y = if 1 < parts {
+        type_of(types, terms, names, r.b)
+    } else {
+        Ok(0)
+    };
     let z = if 2 < parts {
         enter(names, Some(0));
         let z = type_of(types, terms, names, r.c);

@@ -9,11 +9,11 @@ use crate::refusal::Refusal;
 use crate::rules::bad_term;
 use crate::rules::bad_type;
 use crate::types::type_of;
+use rows::MOST_TERMS;
+use rows::MOST_TYPES;
 use rows::Stack;
 use rows::TermRow;
 use rows::TypeRow;
-use rows::MOST_TERMS;
-use rows::MOST_TYPES;
 
 // The first law of tables that is broken, and its lowest row.
 fn check_rows(types: &[TypeRow], terms: &[TermRow]) -> Result<(), Refusal>
@@ -22,16 +22,28 @@ fn check_rows(types: &[TypeRow], terms: &[TermRow]) -> Result<(), Refusal>
     let n = types.len();
     let m = terms.len();
     if (n == 0 || n > MOST_TYPES) || (m == 0 || m > MOST_TERMS) {
-        return Err(Refusal { fault: Fault::TableSize, row: 0 });
+        return Err(Refusal {
+            fault: Fault::TableSize,
+            row: 0,
+        });
     }
     if let Some(row) = bad_type(types) {
-        return Err(Refusal { fault: Fault::BadType, row });
+        return Err(Refusal {
+            fault: Fault::BadType,
+            row,
+        });
     }
     if let Some(row) = bad_term(n as u32, terms) {
-        return Err(Refusal { fault: Fault::BadTerm, row });
+        return Err(Refusal {
+            fault: Fault::BadTerm,
+            row,
+        });
     }
     match bad_part(terms) {
-        Some(row) => Err(Refusal { fault: Fault::PartUse, row }),
+        Some(row) => Err(Refusal {
+            fault: Fault::PartUse,
+            row,
+        }),
         None => Ok(()),
     }
 }
@@ -43,12 +55,21 @@ pub fn judge(types: &[TypeRow], terms: &[TermRow], sight: &mut [u32]) -> Result<
     check_rows(types, terms)?;
     let last = (terms.len() - 1) as u32;
     if let Some(row) = deepest(terms, sight.len(), last, 0) {
-        return Err(Refusal { fault: Fault::TooDeep, row });
+        return Err(Refusal {
+            fault: Fault::TooDeep,
+            row,
+        });
     }
     let mut names = Stack::new(sight);
     match type_of(types, terms, &mut names, last) {
-        Err(row) => Err(Refusal { fault: Fault::Untyped, row }),
+        Err(row) => Err(Refusal {
+            fault: Fault::Untyped,
+            row,
+        }),
         Ok(0) => Ok(()),
-        Ok(_) => Err(Refusal { fault: Fault::NotNat, row: last }),
+        Ok(_) => Err(Refusal {
+            fault: Fault::NotNat,
+            row: last,
+        }),
     }
 }

@@ -6,22 +6,36 @@ ghost use Rattle.std.specs.declared.result.Result.the-variants.{Ok, Err};
 ghost use Rattle.rows.specs.Rows.{«nat-row», «leaf-row»};
 ghost use Rattle.checker.specs.Verdicts.{verdict, answer};
 ghost use Rattle.checker.specs.Sheets.{tables};
-
 use crate::refusal::Refusal;
 use crate::sheet::Passed;
 use crate::verdict::judge;
 use rows::TermRow;
 use rows::TypeRow;
 
-static NAT: [TypeRow; 1] = [TypeRow { kind: 0, left: 0, right: 0 }];
-static ZERO: [TermRow; 1] = [TermRow { kind: 0, ty: 0, number: 0, a: 0, b: 0, c: 0 }];
+static NAT: [TypeRow; 1] = [TypeRow {
+    kind: 0,
+    left: 0,
+    right: 0,
+}];
+
+static ZERO: [TermRow; 1] = [TermRow {
+    kind: 0,
+    ty: 0,
+    number: 0,
+    a: 0,
+    b: 0,
+    c: 0,
+}];
 
 impl<'t> Passed<'t> {
     // The built-in rule `0`.
     pub fn builtin() -> Passed<'t>
         ensures { λ r. ⌜ tables r ≡ («nat-row» ∷ [], «leaf-row» 0 0 ∷ []) ⌝ }
     {
-        Passed { types: &NAT, terms: &ZERO }
+        Passed {
+            types: &NAT,
+            terms: &ZERO,
+        }
     }
 
     pub fn types(&self) -> &'t [TypeRow]
