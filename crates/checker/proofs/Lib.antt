@@ -8,3 +8,8 @@ pub mod Sights
 pub mod Typings
 pub mod Sheets
 pub mod Lifts
+pub mod ByKind
+pub mod TypeLaws
+pub mod TermLaws
+pub mod TableLaws
+pub mod TypeRows

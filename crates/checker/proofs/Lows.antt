@@ -47,3 +47,8 @@ module _ (good : ℕ → Bool) where
       none-good : (b : Bool) (n : ℕ) → cond b None (Some n) ≡ None → b ≡ true
       none-good true n e = refl
       none-good false n e = absurd (let z : _≡_ {A = ℕ} 0 1 = cc in omega arith)
+
+  -- and where each is good, it finds none
+  pub lowest-none : (n : ℕ) → ((k : ℕ) → k < n → good k ≡ true) → lowest good n ≡ None
+  lowest-none zero h = refl
+  lowest-none (suc n) h = rw (lowest-none n (λ k lt. h k (omega arith)), h n (omega arith)) refl
