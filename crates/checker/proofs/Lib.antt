@@ -13,3 +13,6 @@ pub mod TypeLaws
 pub mod TermLaws
 pub mod TableLaws
 pub mod TypeRows
+pub mod Sound
+pub mod Complete
+pub mod Typed
