@@ -113,7 +113,7 @@ needs-true b q e = cond-true b (Some q) None e
 
 module _ (ts : List TypeRow) (few : length ts ≤ 1024) where
   -- a place is not the one of no type
-  proper : (t : ℕ) → t < length ts → eqb t no-type ≡ false
+  pub proper : (t : ℕ) → t < length ts → eqb t no-type ≡ false
   proper t h = ne-eqb t no-type (λ e. omega (arith, h, e))
 
   seen : (l : List ℕ) (d : ℕ) (σ τ : Ty) → Valid (length ts) l → nth (fill ts nat l) d ≡ Some σ → nth (fill ts H l) d ≡ Some τ

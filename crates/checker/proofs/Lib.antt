@@ -16,3 +16,5 @@ pub mod TypeRows
 pub mod Sound
 pub mod Complete
 pub mod Typed
+pub mod Descending
+pub mod Faulty

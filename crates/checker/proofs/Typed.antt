@@ -108,7 +108,7 @@ sound s k (suc m) p h lt names q e =
 
 -- ---- and a type by the judgement is found
 
-type-placed : (n p : ℕ) (r : TermRow) → Good n p r → typed (r .kind) ≡ true → r .ty < n
+pub type-placed : (n p : ℕ) (r : TermRow) → Good n p r → typed (r .kind) ≡ true → r .ty < n
 type-placed n p r g u = ltb-true (r .ty) n (sym (cond-true (typed (r .kind)) (ltb (r .ty) n) (eqb (r .ty) 0) u) ∙ g .type)
 
 pub complete : (s : Tables) → Kept s → (m p : ℕ) → p < m → p < length (s .1) → Finds (s .0) (type-at (s .0) (s .1) p) (term-at s p)
