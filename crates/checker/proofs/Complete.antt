@@ -95,11 +95,11 @@ Outcome ts o σ τ = (Typed ts o σ × (σ ≡ τ)) ⊎ ((σ ≡ nat) × (τ ≡
 abbrev pub Finds : List TypeRow → (List ℕ → Found) → Term → Type 0
 Finds ts f e = (l : List ℕ) → Valid (length ts) l → (σ τ : Ty) → fill ts nat l ⊢ e ∶ σ → fill ts H l ⊢ e ∶ τ → Outcome ts (f l) σ τ
 
-nat-apart : (σ ρ : Ty) → nat ≡ both σ ρ → ⊥
+pub nat-apart : (σ ρ : Ty) → nat ≡ both σ ρ → ⊥
 nat-apart σ ρ e = let z : _≡_ {A = ℕ} 0 1 = cc in omega arith
 
 -- a type that is the same both times is found
-solid : (ts : List TypeRow) (o : Found) (σ τ : Ty) → σ ≡ τ → Outcome ts o σ τ → Typed ts o σ
+pub solid : (ts : List TypeRow) (o : Found) (σ τ : Ty) → σ ≡ τ → Outcome ts o σ τ → Typed ts o σ
 solid ts o σ τ e (inl (w, q)) = w
 solid ts o σ τ e (inr (a, b)) = absurd (nat-apart nat nat (sym a ∙ e ∙ b))
 
@@ -122,20 +122,20 @@ module _ (ts : List TypeRow) (few : length ts ≤ 1024) where
   seen (t ∷ l) zero σ τ v a b =
       ⊎-elim
       (λ (e : t ≡ no-type).
-          let q = eq-eqb t no-type e in
-          let x = cond-true (eqb t no-type) nat (ty-at ts t) q in
-          let y = cond-true (eqb t no-type) H (ty-at ts t) q in
-          inr (some-in (sym a ∙ ap (λ o. Some o) x), some-in (sym b ∙ ap (λ o. Some o) y)))
+      let q = eq-eqb t no-type e in
+      let x = cond-true (eqb t no-type) nat (ty-at ts t) q in
+      let y = cond-true (eqb t no-type) H (ty-at ts t) q in
+      inr (some-in (sym a ∙ ap (λ o. Some o) x), some-in (sym b ∙ ap (λ o. Some o) y)))
       (λ (h : t < length ts).
-          let q = proper t h in
-          let x = cond-false (eqb t no-type) nat (ty-at ts t) q in
-          let y = cond-false (eqb t no-type) H (ty-at ts t) q in
-          let e = some-in (sym (ap (λ o. Some o) x) ∙ a) in
-          inl (t, cond-false (eqb t no-type) None (Some t) q, h, e, sym e ∙ some-in (sym (ap (λ o. Some o) y) ∙ b)))
+      let q = proper t h in
+      let x = cond-false (eqb t no-type) nat (ty-at ts t) q in
+      let y = cond-false (eqb t no-type) H (ty-at ts t) q in
+      let e = some-in (sym (ap (λ o. Some o) x) ∙ a) in
+      inl (t, cond-false (eqb t no-type) None (Some t) q, h, e, sym e ∙ some-in (sym (ap (λ o. Some o) y) ∙ b)))
       (v .0)
     where
-    some-in : {u w : Ty} → _≡_ {A = Option Ty} (Some u) (Some w) → u ≡ w
-    some-in e = cc
+      some-in : {u w : Ty} → _≡_ {A = Option Ty} (Some u) (Some w) → u ≡ w
+      some-in e = cc
   seen (t ∷ l) (suc d) σ τ v a b = seen l d σ τ (v .1) a b
 
   -- a name with a type more in sight
@@ -149,7 +149,6 @@ module _ (ts : List TypeRow) (some : 0 < length ts) (few : length ts ≤ 1024) (
     (to-is : (p : ℕ) (σ τ : Ty) → p < length ts → ty-at ts p ≡ to σ τ → (is-to ts p ≡ true) × (row-of ts p .left < p) × (row-of ts p .right < p) × (ty-at ts (row-of ts p .left) ≡ σ) × (ty-at ts (row-of ts p .right) ≡ τ))
     (both-is : (p : ℕ) (σ τ : Ty) → p < length ts → ty-at ts p ≡ both σ τ → (is-both ts p ≡ true) × (row-of ts p .left < p) × (row-of ts p .right < p) × (ty-at ts (row-of ts p .left) ≡ σ) × (ty-at ts (row-of ts p .right) ≡ τ))
     (f : ℕ → List ℕ → Found) (g : ℕ → Term) (i t n x y z : ℕ) (l : List ℕ) (v : Valid (length ts) l) (σ τ : Ty) where
-
   abbrev Complete-at : ℕ → Type 0
   Complete-at k =
       (ltb 0 (arity k) ≡ true → Finds ts (f x) (g x)) → (ltb 1 (arity k) ≡ true → Finds ts (f y) (g y)) → (ltb 2 (arity k) ≡ true → Finds ts (f z) (g z))
@@ -205,9 +204,9 @@ module _ (ts : List TypeRow) (some : 0 < length ts) (few : length ts ≤ 1024) (
       let a = solid ts (f x l) nat nat refl (ia l v nat nat (w .0) (u .0)) in
       ⊎-elim
       (λ (q : Typed ts (f y l) σ × (σ ≡ τ)).
-          let b = q .0 in
-          let c = solid ts (f z (0 ∷ l)) σ τ (q .1) (ic (0 ∷ l) (inr some, v) σ τ (named ts few nat 0 l (g z) nat σ some nat-is (w .2)) (named ts few H 0 l (g z) nat τ some nat-is (u .2))) in
-          inl (record { place = b .place; valid = b .valid; is = made ts i (row 3 t n x y z) (nth l n) (f x l) (f y l) (f z (0 ∷ l)) (a .place) (b .place) (c .place) (b .place) (a .is) (b .is) (c .is) (needs-true (eqb (a .place) 0 && eqb (b .place) (c .place)) (b .place) (and-from (eqb (a .place) 0) (eqb (b .place) (c .place)) (is-zero _ a) (same-of (b .place) (c .place) (b .valid) (c .valid) (b .type ∙ sym (c .type))))); type = b .type }, q .1))
+      let b = q .0 in
+      let c = solid ts (f z (0 ∷ l)) σ τ (q .1) (ic (0 ∷ l) (inr some, v) σ τ (named ts few nat 0 l (g z) nat σ some nat-is (w .2)) (named ts few H 0 l (g z) nat τ some nat-is (u .2))) in
+      inl (record { place = b .place; valid = b .valid; is = made ts i (row 3 t n x y z) (nth l n) (f x l) (f y l) (f z (0 ∷ l)) (a .place) (b .place) (c .place) (b .place) (a .is) (b .is) (c .is) (needs-true (eqb (a .place) 0 && eqb (b .place) (c .place)) (b .place) (and-from (eqb (a .place) 0) (eqb (b .place) (c .place)) (is-zero _ a) (same-of (b .place) (c .place) (b .valid) (c .valid) (b .type ∙ sym (c .type))))); type = b .type }, q .1))
       inr
       (ib l v σ τ (w .1) (u .1))
 
@@ -219,74 +218,74 @@ module _ (ts : List TypeRow) (some : 0 < length ts) (few : length ts ≤ 1024) (
       (λ ia ib ic it a b. one-nat 2 (ia refl) (λ p. refl) (inv-succ a) (inv-succ b))
       (λ ia ib ic it a b. ifz-case (ia refl) (ib refl) (ic refl) (inv-ifz a) (inv-ifz b))
       (λ ia ib ic it a b.
-          let w = inv-lam a in
-          let u = inv-lam b in
-          let tv = it refl in
-          let same = to-same _ _ _ _ (sym (w .2) ∙ u .2) in
-          let q = to-is t (w .0) (w .1) tv (w .2) in
-          let lt : row-of ts t .left < length ts = omega (arith, q .1, tv) in
-          let c = solid ts (f x (row-of ts t .left ∷ l)) (w .1) (u .1) (same .1) (ia refl (row-of ts t .left ∷ l) (inr lt, v) (w .1) (u .1) (named ts few nat (row-of ts t .left) l (g x) (w .0) (w .1) lt (q .3) (w .4)) (named ts few H (row-of ts t .left) l (g x) (u .0) (u .1) lt (q .3 ∙ same .0) (u .4))) in
-          let c-is : f x (cond (is-to ts t) (row-of ts t .left) no-type ∷ l) ≡ Ok (c .place) = ap (λ o. f x (o ∷ l)) (cond-true (is-to ts t) (row-of ts t .left) no-type (q .0)) ∙ c .is in
-          inl (record { place = t; valid = tv; is = made ts i (row 4 t n x y z) (nth l n) (f x (cond (is-to ts t) (row-of ts t .left) no-type ∷ l)) (Ok 0) (Ok 0) (c .place) 0 0 t c-is refl refl (needs-true (is-to ts t && eqb (c .place) (row-of ts t .right)) t (and-from (is-to ts t) (eqb (c .place) (row-of ts t .right)) (q .0) (same-of (c .place) (row-of ts t .right) (c .valid) (omega (arith, q .2, tv)) (c .type ∙ sym (q .4))))); type = w .2 ∙ sym (w .3) }, w .3 ∙ sym (w .2) ∙ u .2 ∙ sym (u .3)))
+      let w = inv-lam a in
+      let u = inv-lam b in
+      let tv = it refl in
+      let same = to-same _ _ _ _ (sym (w .2) ∙ u .2) in
+      let q = to-is t (w .0) (w .1) tv (w .2) in
+      let lt : row-of ts t .left < length ts = omega (arith, q .1, tv) in
+      let c = solid ts (f x (row-of ts t .left ∷ l)) (w .1) (u .1) (same .1) (ia refl (row-of ts t .left ∷ l) (inr lt, v) (w .1) (u .1) (named ts few nat (row-of ts t .left) l (g x) (w .0) (w .1) lt (q .3) (w .4)) (named ts few H (row-of ts t .left) l (g x) (u .0) (u .1) lt (q .3 ∙ same .0) (u .4))) in
+      let c-is : f x (cond (is-to ts t) (row-of ts t .left) no-type ∷ l) ≡ Ok (c .place) = ap (λ o. f x (o ∷ l)) (cond-true (is-to ts t) (row-of ts t .left) no-type (q .0)) ∙ c .is in
+      inl (record { place = t; valid = tv; is = made ts i (row 4 t n x y z) (nth l n) (f x (cond (is-to ts t) (row-of ts t .left) no-type ∷ l)) (Ok 0) (Ok 0) (c .place) 0 0 t c-is refl refl (needs-true (is-to ts t && eqb (c .place) (row-of ts t .right)) t (and-from (is-to ts t) (eqb (c .place) (row-of ts t .right)) (q .0) (same-of (c .place) (row-of ts t .right) (c .valid) (omega (arith, q .2, tv)) (c .type ∙ sym (q .4))))); type = w .2 ∙ sym (w .3) }, w .3 ∙ sym (w .2) ∙ u .2 ∙ sym (u .3)))
       (λ ia ib ic it a b.
-          let w = inv-app a in
-          let u = inv-app b in
-          ⊎-elim
-          (λ (m : Typed ts (f x l) (to (w .0) σ) × (to (w .0) σ ≡ to (u .0) τ)).
-              let h = m .0 in
-              let same = to-same _ _ _ _ (m .1) in
-              let c = solid ts (f y l) (w .0) (u .0) (same .0) (ib refl l v (w .0) (u .0) (w .2) (u .2)) in
-              let q = to-is (h .place) (w .0) σ (h .valid) (h .type) in
-              inl (record { place = row-of ts (h .place) .right; valid = omega (arith, q .2, h .valid); is = made ts i (row 5 t n x y z) (nth l n) (f x l) (f y l) (Ok 0) (h .place) (c .place) 0 (row-of ts (h .place) .right) (h .is) (c .is) refl (needs-true (is-to ts (h .place) && eqb (c .place) (row-of ts (h .place) .left)) (row-of ts (h .place) .right) (and-from (is-to ts (h .place)) (eqb (c .place) (row-of ts (h .place) .left)) (q .0) (same-of (c .place) (row-of ts (h .place) .left) (c .valid) (omega (arith, q .1, h .valid)) (c .type ∙ sym (q .3))))); type = q .4 }, same .1))
-          (λ (m : (to (w .0) σ ≡ nat) × (to (u .0) τ ≡ H)). absurd (to-nat (w .0) σ (m .0)))
-          (ia refl l v (to (w .0) σ) (to (u .0) τ) (w .1) (u .1)))
+      let w = inv-app a in
+      let u = inv-app b in
+      ⊎-elim
+      (λ (m : Typed ts (f x l) (to (w .0) σ) × (to (w .0) σ ≡ to (u .0) τ)).
+      let h = m .0 in
+      let same = to-same _ _ _ _ (m .1) in
+      let c = solid ts (f y l) (w .0) (u .0) (same .0) (ib refl l v (w .0) (u .0) (w .2) (u .2)) in
+      let q = to-is (h .place) (w .0) σ (h .valid) (h .type) in
+      inl (record { place = row-of ts (h .place) .right; valid = omega (arith, q .2, h .valid); is = made ts i (row 5 t n x y z) (nth l n) (f x l) (f y l) (Ok 0) (h .place) (c .place) 0 (row-of ts (h .place) .right) (h .is) (c .is) refl (needs-true (is-to ts (h .place) && eqb (c .place) (row-of ts (h .place) .left)) (row-of ts (h .place) .right) (and-from (is-to ts (h .place)) (eqb (c .place) (row-of ts (h .place) .left)) (q .0) (same-of (c .place) (row-of ts (h .place) .left) (c .valid) (omega (arith, q .1, h .valid)) (c .type ∙ sym (q .3))))); type = q .4 }, same .1))
+      (λ (m : (to (w .0) σ ≡ nat) × (to (u .0) τ ≡ H)). absurd (to-nat (w .0) σ (m .0)))
+      (ia refl l v (to (w .0) σ) (to (u .0) τ) (w .1) (u .1)))
       (λ ia ib ic it a b.
-          let w = inv-fix a in
-          let u = inv-fix b in
-          let tv = it refl in
-          let c = solid ts (f x (t ∷ l)) (ty-at ts t) (ty-at ts t) refl (ia refl (t ∷ l) (inr tv, v) (ty-at ts t) (ty-at ts t) (named ts few nat t l (g x) (ty-at ts t) (ty-at ts t) tv refl (w .1)) (named ts few H t l (g x) (ty-at ts t) (ty-at ts t) tv refl (u .1))) in
-          inl (record { place = t; valid = tv; is = made ts i (row 6 t n x y z) (nth l n) (f x (t ∷ l)) (Ok 0) (Ok 0) (c .place) 0 0 t (c .is) refl refl (needs-true (eqb (c .place) t) t (same-of (c .place) t (c .valid) tv (c .type))); type = sym (w .0) }, w .0 ∙ sym (u .0)))
+      let w = inv-fix a in
+      let u = inv-fix b in
+      let tv = it refl in
+      let c = solid ts (f x (t ∷ l)) (ty-at ts t) (ty-at ts t) refl (ia refl (t ∷ l) (inr tv, v) (ty-at ts t) (ty-at ts t) (named ts few nat t l (g x) (ty-at ts t) (ty-at ts t) tv refl (w .1)) (named ts few H t l (g x) (ty-at ts t) (ty-at ts t) tv refl (u .1))) in
+      inl (record { place = t; valid = tv; is = made ts i (row 6 t n x y z) (nth l n) (f x (t ∷ l)) (Ok 0) (Ok 0) (c .place) 0 0 t (c .is) refl refl (needs-true (eqb (c .place) t) t (same-of (c .place) t (c .valid) tv (c .type))); type = sym (w .0) }, w .0 ∙ sym (u .0)))
       (λ ia ib ic it a b.
-          let w = inv-pair a in
-          let u = inv-pair b in
-          let tv = it refl in
-          let same = both-same _ _ _ _ (sym (w .2) ∙ u .2) in
-          let q = both-is t (w .0) (w .1) tv (w .2) in
-          let c = solid ts (f x l) (w .0) (u .0) (same .0) (ia refl l v (w .0) (u .0) (w .4) (u .4)) in
-          let d = solid ts (f y l) (w .1) (u .1) (same .1) (ib refl l v (w .1) (u .1) (w .5) (u .5)) in
-          inl (record { place = t; valid = tv; is = made ts i (row 7 t n x y z) (nth l n) (f x l) (f y l) (Ok 0) (c .place) (d .place) 0 t (c .is) (d .is) refl (needs-true (is-both ts t && (eqb (c .place) (row-of ts t .left) && eqb (d .place) (row-of ts t .right))) t (and-from (is-both ts t) (eqb (c .place) (row-of ts t .left) && eqb (d .place) (row-of ts t .right)) (q .0) (and-from (eqb (c .place) (row-of ts t .left)) (eqb (d .place) (row-of ts t .right)) (same-of (c .place) (row-of ts t .left) (c .valid) (omega (arith, q .1, tv)) (c .type ∙ sym (q .3))) (same-of (d .place) (row-of ts t .right) (d .valid) (omega (arith, q .2, tv)) (d .type ∙ sym (q .4)))))); type = w .2 ∙ sym (w .3) }, w .3 ∙ sym (w .2) ∙ u .2 ∙ sym (u .3)))
+      let w = inv-pair a in
+      let u = inv-pair b in
+      let tv = it refl in
+      let same = both-same _ _ _ _ (sym (w .2) ∙ u .2) in
+      let q = both-is t (w .0) (w .1) tv (w .2) in
+      let c = solid ts (f x l) (w .0) (u .0) (same .0) (ia refl l v (w .0) (u .0) (w .4) (u .4)) in
+      let d = solid ts (f y l) (w .1) (u .1) (same .1) (ib refl l v (w .1) (u .1) (w .5) (u .5)) in
+      inl (record { place = t; valid = tv; is = made ts i (row 7 t n x y z) (nth l n) (f x l) (f y l) (Ok 0) (c .place) (d .place) 0 t (c .is) (d .is) refl (needs-true (is-both ts t && (eqb (c .place) (row-of ts t .left) && eqb (d .place) (row-of ts t .right))) t (and-from (is-both ts t) (eqb (c .place) (row-of ts t .left) && eqb (d .place) (row-of ts t .right)) (q .0) (and-from (eqb (c .place) (row-of ts t .left)) (eqb (d .place) (row-of ts t .right)) (same-of (c .place) (row-of ts t .left) (c .valid) (omega (arith, q .1, tv)) (c .type ∙ sym (q .3))) (same-of (d .place) (row-of ts t .right) (d .valid) (omega (arith, q .2, tv)) (d .type ∙ sym (q .4)))))); type = w .2 ∙ sym (w .3) }, w .3 ∙ sym (w .2) ∙ u .2 ∙ sym (u .3)))
       (λ ia ib ic it a b.
-          let w = inv-fst a in
-          let u = inv-fst b in
-          ⊎-elim
-          (λ (m : Typed ts (f x l) (both σ (w .0)) × (both σ (w .0) ≡ both τ (u .0))).
-              let h = m .0 in
-              let q = both-is (h .place) σ (w .0) (h .valid) (h .type) in
-              inl (record { place = row-of ts (h .place) .left; valid = omega (arith, q .1, h .valid); is = made ts i (row 8 t n x y z) (nth l n) (f x l) (Ok 0) (Ok 0) (h .place) 0 0 (row-of ts (h .place) .left) (h .is) refl refl (needs-true (is-both ts (h .place)) (row-of ts (h .place) .left) (q .0)); type = q .3 }, both-same _ _ _ _ (m .1) .0))
-          (λ (m : (both σ (w .0) ≡ nat) × (both τ (u .0) ≡ H)). absurd (nat-apart σ (w .0) (sym (m .0))))
-          (ia refl l v (both σ (w .0)) (both τ (u .0)) (w .1) (u .1)))
+      let w = inv-fst a in
+      let u = inv-fst b in
+      ⊎-elim
+      (λ (m : Typed ts (f x l) (both σ (w .0)) × (both σ (w .0) ≡ both τ (u .0))).
+      let h = m .0 in
+      let q = both-is (h .place) σ (w .0) (h .valid) (h .type) in
+      inl (record { place = row-of ts (h .place) .left; valid = omega (arith, q .1, h .valid); is = made ts i (row 8 t n x y z) (nth l n) (f x l) (Ok 0) (Ok 0) (h .place) 0 0 (row-of ts (h .place) .left) (h .is) refl refl (needs-true (is-both ts (h .place)) (row-of ts (h .place) .left) (q .0)); type = q .3 }, both-same _ _ _ _ (m .1) .0))
+      (λ (m : (both σ (w .0) ≡ nat) × (both τ (u .0) ≡ H)). absurd (nat-apart σ (w .0) (sym (m .0))))
+      (ia refl l v (both σ (w .0)) (both τ (u .0)) (w .1) (u .1)))
       (λ ia ib ic it a b.
-          let w = inv-snd a in
-          let u = inv-snd b in
-          ⊎-elim
-          (λ (m : Typed ts (f x l) (both (w .0) σ) × (both (w .0) σ ≡ both (u .0) τ)).
-              let h = m .0 in
-              let q = both-is (h .place) (w .0) σ (h .valid) (h .type) in
-              inl (record { place = row-of ts (h .place) .right; valid = omega (arith, q .2, h .valid); is = made ts i (row 9 t n x y z) (nth l n) (f x l) (Ok 0) (Ok 0) (h .place) 0 0 (row-of ts (h .place) .right) (h .is) refl refl (needs-true (is-both ts (h .place)) (row-of ts (h .place) .right) (q .0)); type = q .4 }, both-same _ _ _ _ (m .1) .1))
-          (λ (m : (both (w .0) σ ≡ nat) × (both (u .0) τ ≡ H)). absurd (nat-apart (w .0) σ (sym (m .0))))
-          (ia refl l v (both (w .0) σ) (both (u .0) τ) (w .1) (u .1)))
+      let w = inv-snd a in
+      let u = inv-snd b in
+      ⊎-elim
+      (λ (m : Typed ts (f x l) (both (w .0) σ) × (both (w .0) σ ≡ both (u .0) τ)).
+      let h = m .0 in
+      let q = both-is (h .place) (w .0) σ (h .valid) (h .type) in
+      inl (record { place = row-of ts (h .place) .right; valid = omega (arith, q .2, h .valid); is = made ts i (row 9 t n x y z) (nth l n) (f x l) (Ok 0) (Ok 0) (h .place) 0 0 (row-of ts (h .place) .right) (h .is) refl refl (needs-true (is-both ts (h .place)) (row-of ts (h .place) .right) (q .0)); type = q .4 }, both-same _ _ _ _ (m .1) .1))
+      (λ (m : (both (w .0) σ ≡ nat) × (both (u .0) τ ≡ H)). absurd (nat-apart (w .0) σ (sym (m .0))))
+      (ia refl l v (both (w .0) σ) (both (u .0) τ) (w .1) (u .1)))
       (λ ia ib ic it a b. two-nat 10 (ia refl) (ib refl) (λ p q. refl) (inv-calc a) (inv-calc b))
       (λ ia ib ic it a b. two-nat 11 (ia refl) (ib refl) (λ p q. refl) (inv-calc a) (inv-calc b))
       (λ ia ib ic it a b. two-nat 12 (ia refl) (ib refl) (λ p q. refl) (inv-calc a) (inv-calc b))
       (λ ia ib ic it a b. one-nat 13 (ia refl) (λ p. refl) (inv-get a) (inv-get b))
       (λ ia ib ic it a b. inl (record { place = t; valid = it refl; is = refl; type = sym (inv-fail a) }, inv-fail a ∙ sym (inv-fail b)))
       (λ ia ib ic it a b.
-          let w = inv-catch a in
-          let u = inv-catch b in
-          ⊎-elim
-          (λ (m : Typed ts (f x l) σ × (σ ≡ τ)).
-              let h = m .0 in
-              let c = solid ts (f y l) σ τ (m .1) (ib refl l v σ τ (w .1) (u .1)) in
-              inl (record { place = h .place; valid = h .valid; is = made ts i (row 15 t n x y z) (nth l n) (f x l) (f y l) (Ok 0) (h .place) (c .place) 0 (h .place) (h .is) (c .is) refl (needs-true (eqb (h .place) (c .place)) (h .place) (same-of (h .place) (c .place) (h .valid) (c .valid) (h .type ∙ sym (c .type)))); type = h .type }, m .1))
-          inr
-          (ia refl l v σ τ (w .0) (u .0)))
+      let w = inv-catch a in
+      let u = inv-catch b in
+      ⊎-elim
+      (λ (m : Typed ts (f x l) σ × (σ ≡ τ)).
+      let h = m .0 in
+      let c = solid ts (f y l) σ τ (m .1) (ib refl l v σ τ (w .1) (u .1)) in
+      inl (record { place = h .place; valid = h .valid; is = made ts i (row 15 t n x y z) (nth l n) (f x l) (f y l) (Ok 0) (h .place) (c .place) 0 (h .place) (h .is) (c .is) refl (needs-true (eqb (h .place) (c .place)) (h .place) (same-of (h .place) (c .place) (h .valid) (c .valid) (h .type ∙ sym (c .type)))); type = h .type }, m .1))
+      inr
+      (ia refl l v σ τ (w .0) (u .0)))

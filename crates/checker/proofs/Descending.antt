@@ -51,22 +51,26 @@ module _ (s : Tables) (k : Kept s) where
       ⊎-elim
       (λ (z : t ≡ 0). ap domain (ap (ty-at ts) z ∙ nat-at ts (k .types) (k .some-types)) ∙ none (not-to (λ e. to-nat _ _ (sym (to-row ts (k .types) t e) ∙ ap (ty-at ts) z ∙ nat-at ts (k .types) (k .some-types)))))
       (⊎-elim
-          (λ (e : is-to ts t ≡ true).
-              let b = parts-before ts (k .types) t 0 (is-one e) in
-              ap domain (to-row ts (k .types) t e) ∙ sym (hole-at (row-of ts t .left) (omega (arith, b .0))) ∙ ap (hole ts) (sym (cond-true (is-to ts t) (row-of ts t .left) no-type e)))
-          (λ (e : is-both ts t ≡ true). ap domain (both-row ts (k .types) t e) ∙ none (not-to (λ e′. to-both _ _ _ _ (sym (to-row ts (k .types) t e′) ∙ both-row ts (k .types) t e)))))
+      (λ (e : is-to ts t ≡ true).
+      let b = parts-before ts (k .types) t 0 (is-one e) in
+      ap domain (to-row ts (k .types) t e) ∙ sym (hole-at (row-of ts t .left) (omega (arith, b .0))) ∙ ap (hole ts) (sym (cond-true (is-to ts t) (row-of ts t .left) no-type e)))
+      (λ (e : is-both ts t ≡ true). ap domain (both-row ts (k .types) t e) ∙ none (not-to (λ e′. to-both _ _ _ _ (sym (to-row ts (k .types) t e′) ∙ both-row ts (k .types) t e)))))
       (cases ts (k .types) t h)
     where
-    none : is-to (s .0) t ≡ false → None ≡ hole (s .0) (cond (is-to (s .0) t) (row-of (s .0) t .left) no-type)
-    none e = ap (hole (s .0)) (sym (cond-false (is-to (s .0) t) (row-of (s .0) t .left) no-type e))
-    not-to : (is-to (s .0) t ≡ true → ⊥) → is-to (s .0) t ≡ false
-    not-to f = ⊎-elim (λ (e : is-to (s .0) t ≡ true). absurd (f e)) (λ (e : is-to (s .0) t ≡ false). e) (cases-bool (is-to (s .0) t))
-    is-one : is-to (s .0) t ≡ true → row-of (s .0) t .kind ≡ 1
-    is-one e = eqb-true (row-of (s .0) t .kind) 1 e
-    to-nat : (σ τ : Ty) → to σ τ ≡ nat → ⊥
-    to-nat σ τ e = let z : _≡_ {A = ℕ} 0 1 = cc in omega arith
-    to-both : (σ τ σ′ τ′ : Ty) → to σ τ ≡ both σ′ τ′ → ⊥
-    to-both σ τ σ′ τ′ e = let z : _≡_ {A = ℕ} 0 1 = cc in omega arith
+      none : is-to (s .0) t ≡ false → None ≡ hole (s .0) (cond (is-to (s .0) t) (row-of (s .0) t .left) no-type)
+      none e = ap (hole (s .0)) (sym (cond-false (is-to (s .0) t) (row-of (s .0) t .left) no-type e))
+
+      not-to : (is-to (s .0) t ≡ true → ⊥) → is-to (s .0) t ≡ false
+      not-to f = ⊎-elim (λ (e : is-to (s .0) t ≡ true). absurd (f e)) (λ (e : is-to (s .0) t ≡ false). e) (cases-bool (is-to (s .0) t))
+
+      is-one : is-to (s .0) t ≡ true → row-of (s .0) t .kind ≡ 1
+      is-one e = eqb-true (row-of (s .0) t .kind) 1 e
+
+      to-nat : (σ τ : Ty) → to σ τ ≡ nat → ⊥
+      to-nat σ τ e = let z : _≡_ {A = ℕ} 0 1 = cc in omega arith
+
+      to-both : (σ τ σ′ τ′ : Ty) → to σ τ ≡ both σ′ τ′ → ⊥
+      to-both σ τ σ′ τ′ e = let z : _≡_ {A = ℕ} 0 1 = cc in omega arith
 
   module _ (t n x y z : ℕ) (l : List ℕ) where
     first-names : (m : ℕ) → m ≤ 15 → (typed m ≡ true → t < length (s .0)) → names-of s (row m t n x y z) 0 ++ context (s .0) l ≡ context (s .0) (under (bound (s .0) (row m t n x y z)) l)
@@ -101,14 +105,14 @@ module _ (s : Tables) (k : Kept s) where
         (λ h. (inr (h refl), v))
         (λ h. v) (λ h. v) (λ h. v) (λ h. v) (λ h. v) (λ h. v) (λ h. v) (λ h. v) (λ h. v)
       where
-      lam-valid : t < length (s .0) → (cond (is-to (s .0) t) (row-of (s .0) t .left) no-type ≡ no-type) ⊎ (cond (is-to (s .0) t) (row-of (s .0) t .left) no-type < length (s .0))
-      lam-valid h =
-          ⊎-elim
-          (λ (e : is-to (s .0) t ≡ true).
-              let b = parts-before (s .0) (k .types) t 0 (eqb-true (row-of (s .0) t .kind) 1 e) in
-              inr (subst (λ o. o < length (s .0)) (sym (cond-true (is-to (s .0) t) (row-of (s .0) t .left) no-type e)) (omega (arith, b .0))))
-          (λ (e : is-to (s .0) t ≡ false). inl (cond-false (is-to (s .0) t) (row-of (s .0) t .left) no-type e))
-          (cases-bool (is-to (s .0) t))
+        lam-valid : t < length (s .0) → (cond (is-to (s .0) t) (row-of (s .0) t .left) no-type ≡ no-type) ⊎ (cond (is-to (s .0) t) (row-of (s .0) t .left) no-type < length (s .0))
+        lam-valid h =
+            ⊎-elim
+            (λ (e : is-to (s .0) t ≡ true).
+            let b = parts-before (s .0) (k .types) t 0 (eqb-true (row-of (s .0) t .kind) 1 e) in
+            inr (subst (λ o. o < length (s .0)) (sym (cond-true (is-to (s .0) t) (row-of (s .0) t .left) no-type e)) (omega (arith, b .0))))
+            (λ (e : is-to (s .0) t ≡ false). inl (cond-false (is-to (s .0) t) (row-of (s .0) t .left) no-type e))
+            (cases-bool (is-to (s .0) t))
 
   -- ---- going down
 
@@ -140,66 +144,68 @@ module _ (s : Tables) (k : Kept s) where
       let w = reach P base step u in
       onward p Γ w (step p (w .names) (w .within) (w .holds)) i (omega (arith, h, count (row-at s p)))
     where
-    onward : (p : ℕ) (Γ : Context) (w : Reached P p Γ) → Each P p (w .names) → (i : ℕ) → i < arity (row-at s p .kind) → Reached P (getD (parts-of (row-at s p)) i 0) (names-of s (row-at s p) i ++ Γ)
-    onward p Γ w each zero h =
-        let r = row-at s p in
-        let u = lt-ltb 0 (arity (r .kind)) h in
-        let below = a-below p r (good-at s k p (w .within) .parts) u in
-        subst (λ q. Reached P q (names-of s r 0 ++ Γ)) (sym (place r 0 h))
-        (record {
-          names = under (bound (s .0) r) (w .names);
-          is = ap (λ Δ. names-of s r 0 ++ Δ) (w .is) ∙ first-names (r .ty) (r .number) (r .a) (r .b) (r .c) (w .names) (r .kind) (small-kind p (w .within)) (type-in-place p (w .within));
-          valid = valid-first (r .ty) (r .number) (r .a) (r .b) (r .c) (w .names) (w .valid) (r .kind) (small-kind p (w .within)) (type-in-place p (w .within));
-          within = omega (arith, below, w .within);
-          holds = each .0 u
-        })
-    onward p Γ w each (suc zero) h =
-        let r = row-at s p in
-        let u = lt-ltb 1 (arity (r .kind)) h in
-        let below = b-below p r (good-at s k p (w .within) .parts) u in
-        subst (λ q. Reached P q (names-of s r 1 ++ Γ)) (sym (place r 1 h))
-        (record {
-          names = w .names;
-          is = ap (λ Δ. Δ ++ Γ) (second-names (r .ty) (r .number) (r .a) (r .b) (r .c) (w .names) (r .kind) (small-kind p (w .within))) ∙ w .is;
-          valid = w .valid;
-          within = omega (arith, below, w .within);
-          holds = each .1 u
-        })
-    onward p Γ w each (suc (suc zero)) h =
-        let r = row-at s p in
-        let u = lt-ltb 2 (arity (r .kind)) h in
-        let below = c-below p r (good-at s k p (w .within) .parts) u in
-        subst (λ q. Reached P q (names-of s r 2 ++ Γ)) (sym (place r 2 h))
-        (record {
-          names = 0 ∷ w .names;
-          is = ap (λ Δ. names-of s r 2 ++ Δ) (w .is) ∙ third-names (r .ty) (r .number) (r .a) (r .b) (r .c) (w .names) (r .kind) (small-kind p (w .within)) u;
-          valid = (inr (k .some-types), w .valid);
-          within = omega (arith, below, w .within);
-          holds = each .2 u
-        })
-    onward p Γ w each (suc (suc (suc i))) h = absurd (omega (arith, h, arity-small (row-at s p .kind)))
+      onward : (p : ℕ) (Γ : Context) (w : Reached P p Γ) → Each P p (w .names) → (i : ℕ) → i < arity (row-at s p .kind) → Reached P (getD (parts-of (row-at s p)) i 0) (names-of s (row-at s p) i ++ Γ)
+      onward p Γ w each zero h =
+          let r = row-at s p in
+          let u = lt-ltb 0 (arity (r .kind)) h in
+          let below = a-below p r (good-at s k p (w .within) .parts) u in
+          subst (λ q. Reached P q (names-of s r 0 ++ Γ)) (sym (place r 0 h))
+          (record {
+            names = under (bound (s .0) r) (w .names);
+            is = ap (λ Δ. names-of s r 0 ++ Δ) (w .is) ∙ first-names (r .ty) (r .number) (r .a) (r .b) (r .c) (w .names) (r .kind) (small-kind p (w .within)) (type-in-place p (w .within));
+            valid = valid-first (r .ty) (r .number) (r .a) (r .b) (r .c) (w .names) (w .valid) (r .kind) (small-kind p (w .within)) (type-in-place p (w .within));
+            within = omega (arith, below, w .within);
+            holds = each .0 u;
+          })
+      onward p Γ w each (suc zero) h =
+          let r = row-at s p in
+          let u = lt-ltb 1 (arity (r .kind)) h in
+          let below = b-below p r (good-at s k p (w .within) .parts) u in
+          subst (λ q. Reached P q (names-of s r 1 ++ Γ)) (sym (place r 1 h))
+          (record {
+            names = w .names;
+            is = ap (λ Δ. Δ ++ Γ) (second-names (r .ty) (r .number) (r .a) (r .b) (r .c) (w .names) (r .kind) (small-kind p (w .within))) ∙ w .is;
+            valid = w .valid;
+            within = omega (arith, below, w .within);
+            holds = each .1 u;
+          })
+      onward p Γ w each (suc (suc zero)) h =
+          let r = row-at s p in
+          let u = lt-ltb 2 (arity (r .kind)) h in
+          let below = c-below p r (good-at s k p (w .within) .parts) u in
+          subst (λ q. Reached P q (names-of s r 2 ++ Γ)) (sym (place r 2 h))
+          (record {
+            names = 0 ∷ w .names;
+            is = ap (λ Δ. names-of s r 2 ++ Δ) (w .is) ∙ third-names (r .ty) (r .number) (r .a) (r .b) (r .c) (w .names) (r .kind) (small-kind p (w .within)) u;
+            valid = (inr (k .some-types), w .valid);
+            within = omega (arith, below, w .within);
+            holds = each .2 u;
+          })
+      onward p Γ w each (suc (suc (suc i))) h = absurd (omega (arith, h, arity-small (row-at s p .kind)))
 
   -- the parts of a row that stands under names stand under theirs
   parts-under : (p : ℕ) (l : List ℕ) → p < length (s .1) → Under s p (context (s .0) l) → Each (λ q l′. Under s q (context (s .0) l′)) p l
   parts-under p l lt d =
       let r = row-at s p in
-      let small = small-kind p lt in
-      ( (λ u. let h = ltb-true 0 (arity (r .kind)) u in
-          moved (place r 0 h) (first-names (r .ty) (r .number) (r .a) (r .b) (r .c) l (r .kind) small (type-in-place p lt)) (part 0 d (omega (arith, h, count r))))
-      , (λ u. let h = ltb-true 1 (arity (r .kind)) u in
-          moved (place r 1 h) (ap (λ Δ. Δ ++ context (s .0) l) (second-names (r .ty) (r .number) (r .a) (r .b) (r .c) l (r .kind) small)) (part 1 d (omega (arith, h, count r))))
-      , (λ u. let h = ltb-true 2 (arity (r .kind)) u in
-          moved (place r 2 h) (third-names (r .ty) (r .number) (r .a) (r .b) (r .c) l (r .kind) small u) (part 2 d (omega (arith, h, count r)))))
+      let small = small-kind p lt in (
+        (λ u. let h = ltb-true 0 (arity (r .kind)) u in
+            moved (place r 0 h) (first-names (r .ty) (r .number) (r .a) (r .b) (r .c) l (r .kind) small (type-in-place p lt)) (part 0 d (omega (arith, h, count r)))),
+        (λ u. let h = ltb-true 1 (arity (r .kind)) u in
+            moved (place r 1 h) (ap (λ Δ. Δ ++ context (s .0) l) (second-names (r .ty) (r .number) (r .a) (r .b) (r .c) l (r .kind) small)) (part 1 d (omega (arith, h, count r)))),
+        (λ u. let h = ltb-true 2 (arity (r .kind)) u in
+            moved (place r 2 h) (third-names (r .ty) (r .number) (r .a) (r .b) (r .c) l (r .kind) small u) (part 2 d (omega (arith, h, count r)))),
+      )
     where
-    moved : {q q′ : ℕ} {Γ Γ′ : Context} → q ≡ q′ → Γ ≡ Γ′ → Under s q Γ → Under s q′ Γ′
-    moved {q} {q′} {Γ} {Γ′} e e′ d = subst (λ Δ. Under s q′ Δ) e′ (subst (λ x. Under s x Γ) e d)
+      moved : {q q′ : ℕ} {Γ Γ′ : Context} → q ≡ q′ → Γ ≡ Γ′ → Under s q Γ → Under s q′ Γ′
+      moved {q} {q′} {Γ} {Γ′} e e′ d = subst (λ Δ. Under s q′ Δ) e′ (subst (λ x. Under s x Γ) e d)
 
   parts-valid : (p : ℕ) (l : List ℕ) → p < length (s .1) → Valid (length (s .0)) l → Each (λ q l′. Valid (length (s .0)) l′) p l
   parts-valid p l lt v =
-      let r = row-at s p in
-      ( (λ u. valid-first (r .ty) (r .number) (r .a) (r .b) (r .c) l v (r .kind) (small-kind p lt) (type-in-place p lt))
-      , (λ u. v)
-      , (λ u. (inr (k .some-types), v)))
+      let r = row-at s p in (
+        (λ u. valid-first (r .ty) (r .number) (r .a) (r .b) (r .c) l v (r .kind) (small-kind p lt) (type-in-place p lt)),
+        (λ u. v),
+        (λ u. (inr (k .some-types), v)),
+      )
 
   -- a row of the term at row p, which is no later
   pub record Found (R : ℕ → List ℕ → Type 0) (p : ℕ) : Type 0 where
@@ -230,17 +236,17 @@ module _ (s : Tables) (k : Kept s) where
       ⊎-elim
       (λ (own : R p l). record { at = p; names = l; under = d; valid = v; within = lt; no-later = omega arith; holds = own })
       (⊎-elim
-          (λ (q : (ltb 0 (arity (r .kind)) ≡ true) × F (r .a) (under (bound (s .0) r) l)).
-              let b = a-below p r g (q .0) in
-              later (r .a) p (omega arith) (down F R step m (r .a) (under (bound (s .0) r) l) (omega arith) (omega arith) (vs .0 (q .0)) (ds .0 (q .0)) (q .1)))
-          (⊎-elim
-              (λ (q : (ltb 1 (arity (r .kind)) ≡ true) × F (r .b) l).
-                  let b = b-below p r g (q .0) in
-                  later (r .b) p (omega arith) (down F R step m (r .b) l (omega arith) (omega arith) (vs .1 (q .0)) (ds .1 (q .0)) (q .1)))
-              (λ (q : (ltb 2 (arity (r .kind)) ≡ true) × F (r .c) (0 ∷ l)).
-                  let b = c-below p r g (q .0) in
-                  later (r .c) p (omega arith) (down F R step m (r .c) (0 ∷ l) (omega arith) (omega arith) (vs .2 (q .0)) (ds .2 (q .0)) (q .1)))))
+      (λ (q : (ltb 0 (arity (r .kind)) ≡ true) × F (r .a) (under (bound (s .0) r) l)).
+      let b = a-below p r g (q .0) in
+      later (r .a) p (omega arith) (down F R step m (r .a) (under (bound (s .0) r) l) (omega arith) (omega arith) (vs .0 (q .0)) (ds .0 (q .0)) (q .1)))
+      (⊎-elim
+      (λ (q : (ltb 1 (arity (r .kind)) ≡ true) × F (r .b) l).
+      let b = b-below p r g (q .0) in
+      later (r .b) p (omega arith) (down F R step m (r .b) l (omega arith) (omega arith) (vs .1 (q .0)) (ds .1 (q .0)) (q .1)))
+      (λ (q : (ltb 2 (arity (r .kind)) ≡ true) × F (r .c) (0 ∷ l)).
+      let b = c-below p r g (q .0) in
+      later (r .c) p (omega arith) (down F R step m (r .c) (0 ∷ l) (omega arith) (omega arith) (vs .2 (q .0)) (ds .2 (q .0)) (q .1)))))
       (step p l lt w)
     where
-    later : (q p : ℕ) → q ≤ p → Found R q → Found R p
-    later q p le x = record { at = x .at; names = x .names; under = x .under; valid = x .valid; within = x .within; no-later = omega (arith, x .no-later, le); holds = x .holds }
+      later : (q p : ℕ) → q ≤ p → Found R q → Found R p
+      later q p le x = record { at = x .at; names = x .names; under = x .under; valid = x .valid; within = x .within; no-later = omega (arith, x .no-later, le); holds = x .holds }

@@ -72,12 +72,11 @@ first-some (Some i) b q e = inl e
 
 module _ (s : Tables) (k : Kept s) (G : ℕ → List ℕ → Option ℕ) (O : ℕ → List ℕ → Option ℕ)
     (unfolds : (p : ℕ) (l : List ℕ) → p < length (s .1) → G p l ≡ first-of
-        (lower (cond (ltb 0 (arity (row-at s p .kind))) (G (row-at s p .a) (under (bound (s .0) (row-at s p)) l)) None)
-        (lower (cond (ltb 1 (arity (row-at s p .kind))) (G (row-at s p .b) l) None)
-        (cond (ltb 2 (arity (row-at s p .kind))) (G (row-at s p .c) (0 ∷ l)) None)))
-        (O p l))
+    (lower (cond (ltb 0 (arity (row-at s p .kind))) (G (row-at s p .a) (under (bound (s .0) (row-at s p)) l)) None)
+    (lower (cond (ltb 1 (arity (row-at s p .kind))) (G (row-at s p .b) l) None)
+    (cond (ltb 2 (arity (row-at s p .kind))) (G (row-at s p .c) (0 ∷ l)) None)))
+    (O p l))
     (own : (p : ℕ) (l : List ℕ) (q : ℕ) → O p l ≡ Some q → p ≡ q) where
-
   abbrev in-a : ℕ → List ℕ → Option ℕ
   in-a p l = cond (ltb 0 (arity (row-at s p .kind))) (G (row-at s p .a) (under (bound (s .0) (row-at s p)) l)) None
 
@@ -95,7 +94,7 @@ module _ (s : Tables) (k : Kept s) (G : ℕ → List ℕ → Option ℕ) (O : �
   step q p l lt e =
       ⊎-elim
       (λ (f : lower (in-a p l) (lower (in-b p l) (in-c p l)) ≡ Some q).
-          inr (⊎-elim (λ (x : in-a p l ≡ Some q). inl (cond-some _ _ q x)) (⊎-elim (λ (x : in-b p l ≡ Some q). inr (inl (cond-some _ _ q x))) (λ (x : in-c p l ≡ Some q). inr (inr (cond-some _ _ q x)))) (lower-three (in-a p l) (in-b p l) (in-c p l) q f)))
+      inr (⊎-elim (λ (x : in-a p l ≡ Some q). inl (cond-some _ _ q x)) (⊎-elim (λ (x : in-b p l ≡ Some q). inr (inl (cond-some _ _ q x))) (λ (x : in-c p l ≡ Some q). inr (inr (cond-some _ _ q x)))) (lower-three (in-a p l) (in-b p l) (in-c p l) q f)))
       (λ (f : O p l ≡ Some q). inl (own p l q f, e, f))
       (first-some (lower (in-a p l) (lower (in-b p l) (in-c p l))) (O p l) q (sym (unfolds p l lt) ∙ e))
 
@@ -109,15 +108,16 @@ module _ (s : Tables) (k : Kept s) (G : ℕ → List ℕ → Option ℕ) (O : �
   module _ (T : ℕ → Type 0) (up : (i j : ℕ) → i ≤ j → T i → T j) (top : (j : ℕ) → G (length (s .1) - 1) [] ≡ Some j → T j) where
     -- what is found in a part is no earlier than what is found in the whole
     each : (p : ℕ) (l : List ℕ) → p < length (s .1) → ((j : ℕ) → G p l ≡ Some j → T j) → Each s k (λ p′ l′. (j : ℕ) → G p′ l′ ≡ Some j → T j) p l
-    each p l lt h =
-        ( (λ u j e. from j (inl (cond-true (ltb 0 (arity (row-at s p .kind))) _ None u ∙ e)))
-        , (λ u j e. from j (inr (inl (cond-true (ltb 1 (arity (row-at s p .kind))) _ None u ∙ e))))
-        , (λ u j e. from j (inr (inr (cond-true (ltb 2 (arity (row-at s p .kind))) _ None u ∙ e)))))
+    each p l lt h = (
+      (λ u j e. from j (inl (cond-true (ltb 0 (arity (row-at s p .kind))) _ None u ∙ e))),
+      (λ u j e. from j (inr (inl (cond-true (ltb 1 (arity (row-at s p .kind))) _ None u ∙ e)))),
+      (λ u j e. from j (inr (inr (cond-true (ltb 2 (arity (row-at s p .kind))) _ None u ∙ e)))),
+    )
       where
-      from : (j : ℕ) → (in-a p l ≡ Some j) ⊎ ((in-b p l ≡ Some j) ⊎ (in-c p l ≡ Some j)) → T j
-      from j c =
-          let w = below-three (in-a p l) (in-b p l) (in-c p l) j c in
-          up (w .place) j (w .below) (h (w .place) (unfolds p l lt ∙ ap (λ o. first-of o (O p l)) (w .is)))
+        from : (j : ℕ) → (in-a p l ≡ Some j) ⊎ ((in-b p l ≡ Some j) ⊎ (in-c p l ≡ Some j)) → T j
+        from j c =
+            let w = below-three (in-a p l) (in-b p l) (in-c p l) j c in
+            up (w .place) j (w .below) (h (w .place) (unfolds p l lt ∙ ap (λ o. first-of o (O p l)) (w .is)))
 
     -- so a fault found from any row on is T, and no later than that row
     pub every : {p : ℕ} {Γ : Context} → Under s p Γ → Reached s k (λ p′ l. (j : ℕ) → G p′ l ≡ Some j → T j × (j ≤ p′)) p Γ
@@ -129,6 +129,6 @@ module _ (s : Tables) (k : Kept s) (G : ℕ → List ℕ → Option ℕ) (O : �
           valid = w .valid;
           within = w .within;
           holds = λ j e.
-            let x = found-below j p (w .names) (w .within) (w .valid) (subst (Under s p) (w .is) d) e in
-            (w .holds j e, omega (arith, x .no-later, x .holds .0))
+              let x = found-below j p (w .names) (w .within) (w .valid) (subst (Under s p) (w .is) d) e in
+              (w .holds j e, omega (arith, x .no-later, x .holds .0));
         }

@@ -18,3 +18,4 @@ pub mod Complete
 pub mod Typed
 pub mod Descending
 pub mod Faulty
+pub mod Meaning

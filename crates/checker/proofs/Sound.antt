@@ -77,9 +77,9 @@ context ts names = map (hole ts) names
 fill-more : (ts : List TypeRow) (t : ℕ) (names : List ℕ) (τ : Ty) (Θ : List Ty) → ty-at ts t ≡ τ → Fills (context ts names) Θ → Fills (context ts (t ∷ names)) (τ ∷ Θ)
 fill-more ts t names τ Θ e h = go (eqb t no-type)
   where
-  go : (b : Bool) → Fills (cond b None (Some (ty-at ts t)) ∷ context ts names) (τ ∷ Θ)
-  go true = h
-  go false = (e, h)
+    go : (b : Bool) → Fills (cond b None (Some (ty-at ts t)) ∷ context ts names) (τ ∷ Θ)
+    go true = h
+    go false = (e, h)
 
 -- a name with a type is in sight
 sees : (ts : List TypeRow) (names : List ℕ) (Θ : List Ty) (d p : ℕ) → Fills (context ts names) Θ → known (nth names d) ≡ Some p → nth Θ d ≡ Some (ty-at ts p)
@@ -87,14 +87,14 @@ sees ts [] Θ d p h e = absurd (some-none p (sym e))
 sees ts (t ∷ names) [] d p h e = absurd h
 sees ts (t ∷ names) (τ ∷ Θ) zero p h e = go (eqb t no-type) h e
   where
-  go : (b : Bool) → Fills (cond b None (Some (ty-at ts t)) ∷ context ts names) (τ ∷ Θ) → cond b None (Some t) ≡ Some p → _≡_ {A = Option Ty} (Some τ) (Some (ty-at ts p))
-  go true h′ e′ = absurd (some-none p (sym e′))
-  go false h′ e′ = ap (λ x. Some x) (sym (h′ .0) ∙ ap (ty-at ts) (some-same t p e′))
+    go : (b : Bool) → Fills (cond b None (Some (ty-at ts t)) ∷ context ts names) (τ ∷ Θ) → cond b None (Some t) ≡ Some p → _≡_ {A = Option Ty} (Some τ) (Some (ty-at ts p))
+    go true h′ e′ = absurd (some-none p (sym e′))
+    go false h′ e′ = ap (λ x. Some x) (sym (h′ .0) ∙ ap (ty-at ts) (some-same t p e′))
 sees ts (t ∷ names) (τ ∷ Θ) (suc d) p h e = sees ts names Θ d p (rest (eqb t no-type) h) e
   where
-  rest : (b : Bool) → Fills (cond b None (Some (ty-at ts t)) ∷ context ts names) (τ ∷ Θ) → Fills (context ts names) Θ
-  rest true h′ = h′
-  rest false h′ = h′ .1
+    rest : (b : Bool) → Fills (cond b None (Some (ty-at ts t)) ∷ context ts names) (τ ∷ Θ) → Fills (context ts names) Θ
+    rest true h′ = h′
+    rest false h′ = h′ .1
 
 pub at : {Γ : List Ty} {e : Term} {σ τ : Ty} → σ ≡ τ → Γ ⊢ e ∶ σ → Γ ⊢ e ∶ τ
 at {Γ} {e} q h = subst (λ τ. Γ ⊢ e ∶ τ) q h
@@ -116,7 +116,6 @@ module _ (ts : List TypeRow) (nat-is : ty-at ts 0 ≡ nat)
     (to-is : (q : ℕ) → is-to ts q ≡ true → ty-at ts q ≡ to (ty-at ts (row-of ts q .left)) (ty-at ts (row-of ts q .right)))
     (both-is : (q : ℕ) → is-both ts q ≡ true → ty-at ts q ≡ both (ty-at ts (row-of ts q .left)) (ty-at ts (row-of ts q .right)))
     (f : ℕ → List ℕ → Found) (g : ℕ → Term) (t n x y z : ℕ) (names : List ℕ) (p : ℕ) where
-
   abbrev Sound-at : ℕ → Type 0
   Sound-at k =
       (ltb 0 (arity k) ≡ true → Knows ts (f x) (g x)) → (ltb 1 (arity k) ≡ true → Knows ts (f y) (g y)) → (ltb 2 (arity k) ≡ true → Knows ts (f z) (g z))
@@ -142,48 +141,48 @@ module _ (ts : List TypeRow) (nat-is : ty-at ts 0 ≡ nat)
       (λ ia ib ic io w Θ h. at (is-nat (some-same 0 p (w .rule-is))) (⊢num (io refl)))
       (λ ia ib ic io w Θ h. ⊢name (sees ts names Θ n p h (w .rule-is)))
       (λ ia ib ic io w Θ h.
-          let q = needed (eqb (w .px) 0) 0 p (w .rule-is) in
-          at (is-nat (q .1)) (⊢one of-succ (at (nat-of (w .px) (q .0)) (ia refl names (w .px) (w .x-is) Θ h))))
+      let q = needed (eqb (w .px) 0) 0 p (w .rule-is) in
+      at (is-nat (q .1)) (⊢one of-succ (at (nat-of (w .px) (q .0)) (ia refl names (w .px) (w .x-is) Θ h))))
       (λ ia ib ic io w Θ h.
-          let q = needed (eqb (w .px) 0 && eqb (w .py) (w .pz)) (w .py) p (w .rule-is) in
-          let b = and-parts (eqb (w .px) 0) (eqb (w .py) (w .pz)) (q .0) in
-          at (ap (ty-at ts) (q .1))
-          (⊢ifz (at (nat-of (w .px) (b .0)) (ia refl names (w .px) (w .x-is) Θ h)) (ib refl names (w .py) (w .y-is) Θ h)
-              (at (ap (ty-at ts) (sym (eqb-true (w .py) (w .pz) (b .1)))) (ic refl (0 ∷ names) (w .pz) (w .z-is) (nat ∷ Θ) (fill-more ts 0 names nat Θ nat-is h)))))
+      let q = needed (eqb (w .px) 0 && eqb (w .py) (w .pz)) (w .py) p (w .rule-is) in
+      let b = and-parts (eqb (w .px) 0) (eqb (w .py) (w .pz)) (q .0) in
+      at (ap (ty-at ts) (q .1))
+      (⊢ifz (at (nat-of (w .px) (b .0)) (ia refl names (w .px) (w .x-is) Θ h)) (ib refl names (w .py) (w .y-is) Θ h)
+      (at (ap (ty-at ts) (sym (eqb-true (w .py) (w .pz) (b .1)))) (ic refl (0 ∷ names) (w .pz) (w .z-is) (nat ∷ Θ) (fill-more ts 0 names nat Θ nat-is h)))))
       (λ ia ib ic io w Θ h.
-          let l = row-of ts t .left in
-          let q = needed (is-to ts t && eqb (w .px) (row-of ts t .right)) t p (w .rule-is) in
-          let b = and-parts (is-to ts t) (eqb (w .px) (row-of ts t .right)) (q .0) in
-          let x-is : f x (l ∷ names) ≡ Ok (w .px) = ap (λ u. f x (u ∷ names)) (sym (cond-true (is-to ts t) l no-type (b .0))) ∙ w .x-is in
-          let body = at (ap (ty-at ts) (eqb-true (w .px) (row-of ts t .right) (b .1))) (ia refl (l ∷ names) (w .px) x-is (ty-at ts l ∷ Θ) (fill-more ts l names (ty-at ts l) Θ refl h)) in
-          at (ap (ty-at ts) (q .1)) (subst (λ T. Θ ⊢ lam T (g x) ∶ T) (sym (to-is t (b .0))) (⊢lam body)))
+      let l = row-of ts t .left in
+      let q = needed (is-to ts t && eqb (w .px) (row-of ts t .right)) t p (w .rule-is) in
+      let b = and-parts (is-to ts t) (eqb (w .px) (row-of ts t .right)) (q .0) in
+      let x-is : f x (l ∷ names) ≡ Ok (w .px) = ap (λ u. f x (u ∷ names)) (sym (cond-true (is-to ts t) l no-type (b .0))) ∙ w .x-is in
+      let body = at (ap (ty-at ts) (eqb-true (w .px) (row-of ts t .right) (b .1))) (ia refl (l ∷ names) (w .px) x-is (ty-at ts l ∷ Θ) (fill-more ts l names (ty-at ts l) Θ refl h)) in
+      at (ap (ty-at ts) (q .1)) (subst (λ T. Θ ⊢ lam T (g x) ∶ T) (sym (to-is t (b .0))) (⊢lam body)))
       (λ ia ib ic io w Θ h.
-          let q = needed (is-to ts (w .px) && eqb (w .py) (row-of ts (w .px) .left)) (row-of ts (w .px) .right) p (w .rule-is) in
-          let b = and-parts (is-to ts (w .px)) (eqb (w .py) (row-of ts (w .px) .left)) (q .0) in
-          at (ap (ty-at ts) (q .1))
-          (⊢app (at (to-is (w .px) (b .0)) (ia refl names (w .px) (w .x-is) Θ h)) (at (ap (ty-at ts) (eqb-true (w .py) (row-of ts (w .px) .left) (b .1))) (ib refl names (w .py) (w .y-is) Θ h))))
+      let q = needed (is-to ts (w .px) && eqb (w .py) (row-of ts (w .px) .left)) (row-of ts (w .px) .right) p (w .rule-is) in
+      let b = and-parts (is-to ts (w .px)) (eqb (w .py) (row-of ts (w .px) .left)) (q .0) in
+      at (ap (ty-at ts) (q .1))
+      (⊢app (at (to-is (w .px) (b .0)) (ia refl names (w .px) (w .x-is) Θ h)) (at (ap (ty-at ts) (eqb-true (w .py) (row-of ts (w .px) .left) (b .1))) (ib refl names (w .py) (w .y-is) Θ h))))
       (λ ia ib ic io w Θ h.
-          let q = needed (eqb (w .px) t) t p (w .rule-is) in
-          at (ap (ty-at ts) (q .1)) (⊢fix (at (ap (ty-at ts) (eqb-true (w .px) t (q .0))) (ia refl (t ∷ names) (w .px) (w .x-is) (ty-at ts t ∷ Θ) (fill-more ts t names (ty-at ts t) Θ refl h)))))
+      let q = needed (eqb (w .px) t) t p (w .rule-is) in
+      at (ap (ty-at ts) (q .1)) (⊢fix (at (ap (ty-at ts) (eqb-true (w .px) t (q .0))) (ia refl (t ∷ names) (w .px) (w .x-is) (ty-at ts t ∷ Θ) (fill-more ts t names (ty-at ts t) Θ refl h)))))
       (λ ia ib ic io w Θ h.
-          let q = needed (is-both ts t && (eqb (w .px) (row-of ts t .left) && eqb (w .py) (row-of ts t .right))) t p (w .rule-is) in
-          let b = and-parts (is-both ts t) (eqb (w .px) (row-of ts t .left) && eqb (w .py) (row-of ts t .right)) (q .0) in
-          let d = and-parts (eqb (w .px) (row-of ts t .left)) (eqb (w .py) (row-of ts t .right)) (b .1) in
-          let made = ⊢two of-pair (at (ap (ty-at ts) (eqb-true (w .px) (row-of ts t .left) (d .0))) (ia refl names (w .px) (w .x-is) Θ h)) (at (ap (ty-at ts) (eqb-true (w .py) (row-of ts t .right) (d .1))) (ib refl names (w .py) (w .y-is) Θ h)) in
-          at (ap (ty-at ts) (q .1)) (subst (λ T. Θ ⊢ two (pair T) (g x) (g y) ∶ T) (sym (both-is t (b .0))) made))
+      let q = needed (is-both ts t && (eqb (w .px) (row-of ts t .left) && eqb (w .py) (row-of ts t .right))) t p (w .rule-is) in
+      let b = and-parts (is-both ts t) (eqb (w .px) (row-of ts t .left) && eqb (w .py) (row-of ts t .right)) (q .0) in
+      let d = and-parts (eqb (w .px) (row-of ts t .left)) (eqb (w .py) (row-of ts t .right)) (b .1) in
+      let made = ⊢two of-pair (at (ap (ty-at ts) (eqb-true (w .px) (row-of ts t .left) (d .0))) (ia refl names (w .px) (w .x-is) Θ h)) (at (ap (ty-at ts) (eqb-true (w .py) (row-of ts t .right) (d .1))) (ib refl names (w .py) (w .y-is) Θ h)) in
+      at (ap (ty-at ts) (q .1)) (subst (λ T. Θ ⊢ two (pair T) (g x) (g y) ∶ T) (sym (both-is t (b .0))) made))
       (λ ia ib ic io w Θ h.
-          let q = needed (is-both ts (w .px)) (row-of ts (w .px) .left) p (w .rule-is) in
-          at (ap (ty-at ts) (q .1)) (⊢one of-fst (at (both-is (w .px) (q .0)) (ia refl names (w .px) (w .x-is) Θ h))))
+      let q = needed (is-both ts (w .px)) (row-of ts (w .px) .left) p (w .rule-is) in
+      at (ap (ty-at ts) (q .1)) (⊢one of-fst (at (both-is (w .px) (q .0)) (ia refl names (w .px) (w .x-is) Θ h))))
       (λ ia ib ic io w Θ h.
-          let q = needed (is-both ts (w .px)) (row-of ts (w .px) .right) p (w .rule-is) in
-          at (ap (ty-at ts) (q .1)) (⊢one of-snd (at (both-is (w .px) (q .0)) (ia refl names (w .px) (w .x-is) Θ h))))
+      let q = needed (is-both ts (w .px)) (row-of ts (w .px) .right) p (w .rule-is) in
+      at (ap (ty-at ts) (q .1)) (⊢one of-snd (at (both-is (w .px) (q .0)) (ia refl names (w .px) (w .x-is) Θ h))))
       (λ ia ib ic io w. calc-case add ia ib (w .px) (w .py) (w .x-is) (w .y-is) (w .rule-is))
       (λ ia ib ic io w. calc-case sub ia ib (w .px) (w .py) (w .x-is) (w .y-is) (w .rule-is))
       (λ ia ib ic io w. calc-case mul ia ib (w .px) (w .py) (w .x-is) (w .y-is) (w .rule-is))
       (λ ia ib ic io w Θ h.
-          let q = needed (eqb (w .px) 0) 0 p (w .rule-is) in
-          at (is-nat (q .1)) (⊢one of-get (at (nat-of (w .px) (q .0)) (ia refl names (w .px) (w .x-is) Θ h))))
+      let q = needed (eqb (w .px) 0) 0 p (w .rule-is) in
+      at (is-nat (q .1)) (⊢one of-get (at (nat-of (w .px) (q .0)) (ia refl names (w .px) (w .x-is) Θ h))))
       (λ ia ib ic io w Θ h. at (ap (ty-at ts) (some-same t p (w .rule-is))) ⊢fail)
       (λ ia ib ic io w Θ h.
-          let q = needed (eqb (w .px) (w .py)) (w .px) p (w .rule-is) in
-          at (ap (ty-at ts) (q .1)) (⊢catch (ia refl names (w .px) (w .x-is) Θ h) (at (ap (ty-at ts) (sym (eqb-true (w .px) (w .py) (q .0)))) (ib refl names (w .py) (w .y-is) Θ h))))
+      let q = needed (eqb (w .px) (w .py)) (w .px) p (w .rule-is) in
+      at (ap (ty-at ts) (q .1)) (⊢catch (ia refl names (w .px) (w .x-is) Θ h) (at (ap (ty-at ts) (sym (eqb-true (w .px) (w .py) (q .0)))) (ib refl names (w .py) (w .y-is) Θ h))))

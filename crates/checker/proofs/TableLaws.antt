@@ -32,7 +32,7 @@ lawful s k =
       later = λ p d some h. subst (Compound p) (at-any (s .0) p nat-row d h) (compound-row (s .0) (k .types) p some h);
       apart = λ p q d lt h e. rows-apart (s .0) (k .types) p q lt h (at-any (s .0) p nat-row d (omega (arith, lt, h)) ∙ e ∙ at-any (s .0) q d nat-row h);
       rows = λ p d h. subst (Row (length (s .0)) p) (at-any (s .1) p no-row d h) (row-law (length (s .0)) p (getD (s .1) p no-row) (good (length (s .0)) (s .1) p (lowest-good (good-term (length (s .0)) (s .1)) (length (s .1)) (k .terms) p h)));
-      once = λ p h. eqb-true (uses p (s .1)) 1 (lowest-good (used-once (s .1)) (length (s .1) - 1) (k .parts) p (omega (arith, h)))
+      once = λ p h. eqb-true (uses p (s .1)) 1 (lowest-good (used-once (s .1)) (length (s .1) - 1) (k .parts) p (omega (arith, h)));
     }
 
 pub keeps : (s : Tables) → Lawful s → Kept s
@@ -43,7 +43,7 @@ keeps s l = record {
   few-terms = l .term-count .1;
   types = good-types (s .0) (l .first nat-row) (λ p some h. l .later p nat-row some h) (λ p q lt h e. l .apart p q nat-row lt h e);
   terms = lowest-none (good-term (length (s .0)) (s .1)) (length (s .1)) (λ p h. row-so (length (s .0)) p (getD (s .1) p no-row) (l .rows p no-row h));
-  parts = lowest-none (used-once (s .1)) (length (s .1) - 1) (λ p h. eq-eqb (uses p (s .1)) 1 (l .once p (omega (arith, h))))
+  parts = lowest-none (used-once (s .1)) (length (s .1) - 1) (λ p h. eq-eqb (uses p (s .1)) 1 (l .once p (omega (arith, h))));
 }
 
 fit : (most n : ℕ) → 0 < n → n ≤ most → misfit most n ≡ false
@@ -55,7 +55,7 @@ kept-so s k =
     let terms-low = at-row BadTerm (lowest (good-term (length (s .0)) (s .1)) (length (s .1))) in
     let parts-low = at-row PartUse (lowest (used-once (s .1)) (length (s .1) - 1)) in
     ap (λ b. first-of (cond b (Some (refusal TableSize 0)) None) (first-of types-low (first-of terms-low parts-low)))
-      (or-from (misfit most-types (length (s .0))) (misfit most-terms (length (s .1))) (fit most-types (length (s .0)) (k .some-types) (k .few-types)) (fit most-terms (length (s .1)) (k .some-terms) (k .few-terms)))
+    (or-from (misfit most-types (length (s .0))) (misfit most-terms (length (s .1))) (fit most-types (length (s .0)) (k .some-types) (k .few-types)) (fit most-terms (length (s .1)) (k .some-terms) (k .few-terms)))
     ∙ ap (λ o. first-of (at-row BadType o) (first-of terms-low parts-low)) (k .types)
     ∙ ap (λ o. first-of (at-row BadTerm o) parts-low) (k .terms)
     ∙ ap (at-row PartUse) (k .parts)

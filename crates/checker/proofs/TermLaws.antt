@@ -41,12 +41,12 @@ places-of m p x y z h e =
     let t = and-parts (placed (ltb 1 m) y p) (placed (ltb 2 m) z p) (s .1) in
     go m h (s .0) (t .0) (t .1)
   where
-  go : (m : ℕ) → m ≤ 3 → placed (ltb 0 m) x p ≡ true → placed (ltb 1 m) y p ≡ true → placed (ltb 2 m) z p ≡ true → Places m p x y z
-  go zero h ex ey ez = record { places = []; count = refl; below = tt; a = eqb-true x 0 ex; b = eqb-true y 0 ey; c = eqb-true z 0 ez }
-  go (suc zero) h ex ey ez = record { places = x ∷ []; count = refl; below = (ltb-true x p ex, tt); a = refl; b = eqb-true y 0 ey; c = eqb-true z 0 ez }
-  go (suc (suc zero)) h ex ey ez = record { places = x ∷ y ∷ []; count = refl; below = (ltb-true x p ex, (ltb-true y p ey, tt)); a = refl; b = refl; c = eqb-true z 0 ez }
-  go (suc (suc (suc zero))) h ex ey ez = record { places = x ∷ y ∷ z ∷ []; count = refl; below = (ltb-true x p ex, (ltb-true y p ey, (ltb-true z p ez, tt))); a = refl; b = refl; c = refl }
-  go (suc (suc (suc (suc m)))) h ex ey ez = absurd (omega arith)
+    go : (m : ℕ) → m ≤ 3 → placed (ltb 0 m) x p ≡ true → placed (ltb 1 m) y p ≡ true → placed (ltb 2 m) z p ≡ true → Places m p x y z
+    go zero h ex ey ez = record { places = []; count = refl; below = tt; a = eqb-true x 0 ex; b = eqb-true y 0 ey; c = eqb-true z 0 ez }
+    go (suc zero) h ex ey ez = record { places = x ∷ []; count = refl; below = (ltb-true x p ex, tt); a = refl; b = eqb-true y 0 ey; c = eqb-true z 0 ez }
+    go (suc (suc zero)) h ex ey ez = record { places = x ∷ y ∷ []; count = refl; below = (ltb-true x p ex, (ltb-true y p ey, tt)); a = refl; b = refl; c = eqb-true z 0 ez }
+    go (suc (suc (suc zero))) h ex ey ez = record { places = x ∷ y ∷ z ∷ []; count = refl; below = (ltb-true x p ex, (ltb-true y p ey, (ltb-true z p ez, tt))); a = refl; b = refl; c = refl }
+    go (suc (suc (suc (suc m)))) h ex ey ez = absurd (omega arith)
 
 -- what a form takes
 counts : (f : Form) → (types f ≤ 1) × (parts f ≤ 3)
@@ -88,9 +88,9 @@ module _ (n p t m x y z : ℕ) where
       leaf k m h (omega arith)
       (λ i. record { kind = k; ty = eqb-true t 0 et i; number = m; a = (ps .a ∙ ap (λ l. getD l 0 0) ys) i; b = (ps .b ∙ ap (λ l. getD l 1 0) ys) i; c = (ps .c ∙ ap (λ l. getD l 2 0) ys) i })
     where
-    none-of : (l : List ℕ) → length l ≡ 0 → l ≡ []
-    none-of [] e = refl
-    none-of (v ∷ l) e = absurd (omega arith)
+      none-of : (l : List ℕ) → length l ≡ 0 → l ≡ []
+      none-of [] e = refl
+      none-of (v ∷ l) e = absurd (omega arith)
 
   row-law-at : (k : ℕ) → k ≤ 15 → Good n p (row k t m x y z) → Row n p (row k t m x y z)
   row-law-at =
@@ -157,7 +157,7 @@ tests : (n p : ℕ) (r : TermRow) → Good n p r → good-row n p r ≡ true
 tests n p r g =
     and-from (leb (r .kind) 15) (placed (ltb (r .kind) 2) (r .number) (suc top) && (placed (typed (r .kind)) (r .ty) n && parts-placed p r)) (g .kind)
     (and-from (placed (ltb (r .kind) 2) (r .number) (suc top)) (placed (typed (r .kind)) (r .ty) n && parts-placed p r) (g .number)
-        (and-from (placed (typed (r .kind)) (r .ty) n) (parts-placed p r) (g .type) (g .parts)))
+    (and-from (placed (typed (r .kind)) (r .ty) n) (parts-placed p r) (g .type) (g .parts)))
 
 form-so : (n p : ℕ) (f : Form) (xs ys : List ℕ) → length xs ≡ types f → length ys ≡ parts f → Below n xs → Below p ys → Good n p (form-row f xs ys)
 form-so n p f xs ys lx ly bx by =
@@ -167,7 +167,7 @@ form-so n p f xs ys lx ly bx by =
       kind = k .small;
       number = ap (λ u. placed u 0 (suc top)) (k .numberless);
       type = ap (λ u. placed u (getD xs 0 0) n) (k .types-are ∙ ap (ltb 0) (sym lx)) ∙ type-so n xs (omega (arith, lx, small .0)) bx;
-      parts = ap (λ m. three m p (getD ys 0 0) (getD ys 1 0) (getD ys 2 0)) (k .parts-are ∙ sym ly) ∙ three-so p ys (omega (arith, ly, small .1)) by
+      parts = ap (λ m. three m p (getD ys 0 0) (getD ys 1 0) (getD ys 2 0)) (k .parts-are ∙ sym ly) ∙ three-so p ys (omega (arith, ly, small .1)) by;
     }
 
 leaf-so : (n p k m : ℕ) → k < 2 → m ≤ top → Good n p (leaf-row k m)

@@ -47,17 +47,17 @@ place-le r [] p d h e = absurd (omega arith)
 place-le r (q ∷ ts) zero d h e = let z = cond-true (row-alike r q) 0 (suc (row-place r ts)) e in omega arith
 place-le r (q ∷ ts) (suc p) d h e = go (row-alike r q) (place-le r ts p d (omega arith) e)
   where
-  go : (b : Bool) → row-place r ts ≤ p → cond b 0 (suc (row-place r ts)) ≤ suc p
-  go true le = omega arith
-  go false le = omega arith
+    go : (b : Bool) → row-place r ts ≤ p → cond b 0 (suc (row-place r ts)) ≤ suc p
+    go true le = omega arith
+    go false le = omega arith
 
 place-alike : (r : TypeRow) (ts : List TypeRow) (d : TypeRow) → row-place r ts < length ts → row-alike r (getD ts (row-place r ts) d) ≡ true
 place-alike r [] d h = absurd (omega arith)
 place-alike r (q ∷ ts) d h = go (row-alike r q) refl h (place-alike r ts d)
   where
-  go : (b : Bool) → row-alike r q ≡ b → cond b 0 (suc (row-place r ts)) < suc (length ts) → (row-place r ts < length ts → row-alike r (getD ts (row-place r ts) d) ≡ true) → row-alike r (getD (q ∷ ts) (cond b 0 (suc (row-place r ts))) d) ≡ true
-  go true e h′ rest = e
-  go false e h′ rest = rest (omega arith)
+    go : (b : Bool) → row-alike r q ≡ b → cond b 0 (suc (row-place r ts)) < suc (length ts) → (row-place r ts < length ts → row-alike r (getD ts (row-place r ts) d) ≡ true) → row-alike r (getD (q ∷ ts) (cond b 0 (suc (row-place r ts))) d) ≡ true
+    go true e h′ rest = e
+    go false e h′ rest = rest (omega arith)
 
 -- ---- from the tests to the laws
 
@@ -83,7 +83,7 @@ module _ (ts : List TypeRow) (good : lowest (good-type ts) (length ts) ≡ None)
       record {
         kind = ⊎-elim (λ (e : eqb (r .kind) 1 ≡ true). inl (eqb-true (r .kind) 1 e)) (λ (e : eqb (r .kind) 2 ≡ true). inr (eqb-true (r .kind) 2 e)) (or-cases (eqb (r .kind) 1) (eqb (r .kind) 2) (a .0));
         left = ltb-true (r .left) p (b .0);
-        right = ltb-true (r .right) p (b .1)
+        right = ltb-true (r .right) p (b .1);
       }
 
   pub rows-apart : (p q : ℕ) → p < q → q < length ts → getD ts p nat-row ≡ getD ts q nat-row → ⊥
@@ -97,7 +97,6 @@ module _ (ts : List TypeRow) (good : lowest (good-type ts) (length ts) ≡ None)
 module _ (ts : List TypeRow) (first : getD ts 0 nat-row ≡ nat-row)
     (later : (p : ℕ) → 0 < p → p < length ts → Compound p (getD ts p nat-row))
     (apart : (p q : ℕ) → p < q → q < length ts → getD ts p nat-row ≡ getD ts q nat-row → ⊥) where
-
   compound-so : (p : ℕ) (r : TypeRow) → Compound p r → compound p r ≡ true
   compound-so p r c =
       and-from (eqb (r .kind) 1 || eqb (r .kind) 2) (ltb (r .left) p && ltb (r .right) p)
@@ -116,12 +115,12 @@ module _ (ts : List TypeRow) (first : getD ts 0 nat-row ≡ nat-row)
   pub good-types : lowest (good-type ts) (length ts) ≡ None
   good-types = lowest-none (good-type ts) (length ts) each
     where
-    each : (p : ℕ) → p < length ts → good-type ts p ≡ true
-    each p h =
-        let r = getD ts p nat-row in
-        ⊎-elim
-        (λ (z : p ≡ 0). cond-true (eqb p 0) (row-alike r nat-row) _ (eq-eqb p 0 z) ∙ ap (λ q. row-alike (getD ts q nat-row) nat-row) z ∙ ap (λ x. row-alike x nat-row) first)
-        (λ (z : p ≡ 0 → ⊥).
-            cond-false (eqb p 0) (row-alike r nat-row) (compound p r && eqb (row-place r ts) p) (ne-eqb p 0 z)
-            ∙ and-from (compound p r) (eqb (row-place r ts) p) (compound-so p r (later p (omega arith) h)) (eq-eqb (row-place r ts) p (own-place p h)))
-        (cases-eq p 0)
+      each : (p : ℕ) → p < length ts → good-type ts p ≡ true
+      each p h =
+          let r = getD ts p nat-row in
+          ⊎-elim
+          (λ (z : p ≡ 0). cond-true (eqb p 0) (row-alike r nat-row) _ (eq-eqb p 0 z) ∙ ap (λ q. row-alike (getD ts q nat-row) nat-row) z ∙ ap (λ x. row-alike x nat-row) first)
+          (λ (z : p ≡ 0 → ⊥).
+          cond-false (eqb p 0) (row-alike r nat-row) (compound p r && eqb (row-place r ts) p) (ne-eqb p 0 z)
+          ∙ and-from (compound p r) (eqb (row-place r ts) p) (compound-so p r (later p (omega arith) h)) (eq-eqb (row-place r ts) p (own-place p h)))
+          (cases-eq p 0)

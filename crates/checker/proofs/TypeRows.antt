@@ -93,7 +93,7 @@ module _ (ts : List TypeRow) (good : lowest (good-type ts) (length ts) ≡ None)
   cases p h =
       ⊎-elim inl
       (λ (z : p ≡ 0 → ⊥).
-          inr (⊎-elim (λ (e : row-of ts p .kind ≡ 1). inl (eq-eqb (row-of ts p .kind) 1 e)) (λ (e : row-of ts p .kind ≡ 2). inr (eq-eqb (row-of ts p .kind) 2 e)) (compound-row ts good p (omega arith) h .kind)))
+      inr (⊎-elim (λ (e : row-of ts p .kind ≡ 1). inl (eq-eqb (row-of ts p .kind) 1 e)) (λ (e : row-of ts p .kind ≡ 2). inr (eq-eqb (row-of ts p .kind) 2 e)) (compound-row ts good p (omega arith) h .kind)))
       (cases-eq p 0)
 
   same-rows : (p q k : ℕ) → p < length ts → q < length ts → row-of ts p .kind ≡ k → row-of ts q .kind ≡ k → row-of ts p .left ≡ row-of ts q .left → row-of ts p .right ≡ row-of ts q .right → p ≡ q
@@ -120,25 +120,25 @@ module _ (ts : List TypeRow) (good : lowest (good-type ts) (length ts) ≡ None)
     one-place (suc m) p q h hp hq e =
         ⊎-elim
         (λ (z : p ≡ 0).
-            let n = sym (nat-at some) ∙ ap (ty-at ts) (sym z) ∙ e in
-            ⊎-elim (λ (z′ : q ≡ 0). z ∙ sym z′)
-            (⊎-elim (λ t. absurd (nat-to _ _ (n ∙ to-row q t))) (λ t. absurd (nat-both _ _ (n ∙ both-row q t))))
-            (cases q hq))
+        let n = sym (nat-at some) ∙ ap (ty-at ts) (sym z) ∙ e in
+        ⊎-elim (λ (z′ : q ≡ 0). z ∙ sym z′)
+        (⊎-elim (λ t. absurd (nat-to _ _ (n ∙ to-row q t))) (λ t. absurd (nat-both _ _ (n ∙ both-row q t))))
+        (cases q hq))
         (⊎-elim
-            (λ (t : is-to ts p ≡ true).
-                let u = sym (to-row p t) ∙ e in
-                ⊎-elim (λ (z′ : q ≡ 0). absurd (nat-to _ _ (sym (u ∙ ap (ty-at ts) z′ ∙ nat-at some))))
-                (⊎-elim
-                    (λ (t′ : is-to ts q ≡ true). shapes-agree m p q 0 h hp hq (one-place m) (eqb-true (row-of ts p .kind) 1 t) (eqb-true (row-of ts q .kind) 1 t′) (to-parts _ _ _ _ (u ∙ to-row q t′)))
-                    (λ t′. absurd (to-both _ _ _ _ (u ∙ both-row q t′))))
-                (cases q hq))
-            (λ (t : is-both ts p ≡ true).
-                let u = sym (both-row p t) ∙ e in
-                ⊎-elim (λ (z′ : q ≡ 0). absurd (nat-both _ _ (sym (u ∙ ap (ty-at ts) z′ ∙ nat-at some))))
-                (⊎-elim
-                    (λ t′. absurd (to-both _ _ _ _ (sym (u ∙ to-row q t′))))
-                    (λ (t′ : is-both ts q ≡ true). shapes-agree m p q 1 h hp hq (one-place m) (eqb-true (row-of ts p .kind) 2 t) (eqb-true (row-of ts q .kind) 2 t′) (both-parts _ _ _ _ (u ∙ both-row q t′))))
-                (cases q hq)))
+        (λ (t : is-to ts p ≡ true).
+        let u = sym (to-row p t) ∙ e in
+        ⊎-elim (λ (z′ : q ≡ 0). absurd (nat-to _ _ (sym (u ∙ ap (ty-at ts) z′ ∙ nat-at some))))
+        (⊎-elim
+        (λ (t′ : is-to ts q ≡ true). shapes-agree m p q 0 h hp hq (one-place m) (eqb-true (row-of ts p .kind) 1 t) (eqb-true (row-of ts q .kind) 1 t′) (to-parts _ _ _ _ (u ∙ to-row q t′)))
+        (λ t′. absurd (to-both _ _ _ _ (u ∙ both-row q t′))))
+        (cases q hq))
+        (λ (t : is-both ts p ≡ true).
+        let u = sym (both-row p t) ∙ e in
+        ⊎-elim (λ (z′ : q ≡ 0). absurd (nat-both _ _ (sym (u ∙ ap (ty-at ts) z′ ∙ nat-at some))))
+        (⊎-elim
+        (λ t′. absurd (to-both _ _ _ _ (sym (u ∙ to-row q t′))))
+        (λ (t′ : is-both ts q ≡ true). shapes-agree m p q 1 h hp hq (one-place m) (eqb-true (row-of ts p .kind) 2 t) (eqb-true (row-of ts q .kind) 2 t′) (both-parts _ _ _ _ (u ∙ both-row q t′))))
+        (cases q hq)))
         (cases p hp)
 
     -- what a place is that stands for a function or a pair
@@ -146,20 +146,20 @@ module _ (ts : List TypeRow) (good : lowest (good-type ts) (length ts) ≡ None)
     to-place p σ τ h e =
         ⊎-elim (λ (z : p ≡ 0). absurd (nat-to σ τ (sym (nat-at some) ∙ ap (ty-at ts) (sym z) ∙ e)))
         (⊎-elim
-            (λ (t : is-to ts p ≡ true).
-                let b = parts-before p 0 (eqb-true (row-of ts p .kind) 1 t) in
-                let w = to-parts _ _ _ _ (sym (to-row p t) ∙ e) in
-                (t, b .0, b .1, w .0, w .1))
-            (λ t. absurd (to-both σ τ _ _ (sym e ∙ both-row p t))))
+        (λ (t : is-to ts p ≡ true).
+        let b = parts-before p 0 (eqb-true (row-of ts p .kind) 1 t) in
+        let w = to-parts _ _ _ _ (sym (to-row p t) ∙ e) in
+        (t, b .0, b .1, w .0, w .1))
+        (λ t. absurd (to-both σ τ _ _ (sym e ∙ both-row p t))))
         (cases p h)
 
     pub both-place : (p : ℕ) (σ τ : Ty) → p < length ts → ty-at ts p ≡ both σ τ → (is-both ts p ≡ true) × (row-of ts p .left < p) × (row-of ts p .right < p) × (ty-at ts (row-of ts p .left) ≡ σ) × (ty-at ts (row-of ts p .right) ≡ τ)
     both-place p σ τ h e =
         ⊎-elim (λ (z : p ≡ 0). absurd (nat-both σ τ (sym (nat-at some) ∙ ap (ty-at ts) (sym z) ∙ e)))
         (⊎-elim
-            (λ t. absurd (to-both _ _ σ τ (sym (to-row p t) ∙ e)))
-            (λ (t : is-both ts p ≡ true).
-                let b = parts-before p 1 (eqb-true (row-of ts p .kind) 2 t) in
-                let w = both-parts _ _ _ _ (sym (both-row p t) ∙ e) in
-                (t, b .0, b .1, w .0, w .1)))
+        (λ t. absurd (to-both _ _ σ τ (sym (to-row p t) ∙ e)))
+        (λ (t : is-both ts p ≡ true).
+        let b = parts-before p 1 (eqb-true (row-of ts p .kind) 2 t) in
+        let w = both-parts _ _ _ _ (sym (both-row p t) ∙ e) in
+        (t, b .0, b .1, w .0, w .1)))
         (cases p h)

@@ -78,7 +78,7 @@ term-step s k p lt =
     ap (λ l. getD l p (num 0)) (terms-are Ts [] (s .1))
     ∙ row-at (term-of-row Ts) (s .1) p (num 0) no-row lt
     ∙ alike (s .0) (λ q. getD (take p all) q (num 0)) (term-at s) (r .ty) (r .number) (r .a) (r .b) (r .c) (r .kind) (leb-true (r .kind) 15 (g .kind))
-      (λ u. part (r .a) (a-below p r (g .parts) u)) (λ u. part (r .b) (b-below p r (g .parts) u)) (λ u. part (r .c) (c-below p r (g .parts) u))
+    (λ u. part (r .a) (a-below p r (g .parts) u)) (λ u. part (r .b) (b-below p r (g .parts) u)) (λ u. part (r .c) (c-below p r (g .parts) u))
 
 number-small : (n p : ℕ) (r : TermRow) → Good n p r → ltb (r .kind) 2 ≡ true → r .number ≤ top
 number-small n p r g u = let h = ltb-true (r .number) (suc top) (sym (cond-true (ltb (r .kind) 2) (ltb (r .number) (suc top)) (eqb (r .number) 0) u) ∙ g .number) in omega arith
@@ -93,18 +93,18 @@ sound s k (suc m) p h lt names q e =
     let r = getD es p no-row in
     let g = good-at s k p lt in
     let parts = inverted p
-            (cond (ltb 0 (arity (r .kind))) (type-at ts es (r .a) (under (bound ts r) names)) (Ok 0))
-            (cond (ltb 1 (arity (r .kind))) (type-at ts es (r .b) names) (Ok 0))
-            (cond (ltb 2 (arity (r .kind))) (type-at ts es (r .c) (0 ∷ names)) (Ok 0))
-            (own-type ts r (nth names (r .number))) q (sym (type-step ts es (kept-placed s k) p names lt) ∙ e) in
+    (cond (ltb 0 (arity (r .kind))) (type-at ts es (r .a) (under (bound ts r) names)) (Ok 0))
+    (cond (ltb 1 (arity (r .kind))) (type-at ts es (r .b) names) (Ok 0))
+    (cond (ltb 2 (arity (r .kind))) (type-at ts es (r .c) (0 ∷ names)) (Ok 0))
+    (own-type ts r (nth names (r .number))) q (sym (type-step ts es (kept-placed s k) p names lt) ∙ e) in
     subst (λ x. Has-type (context ts names) x (ty-at ts q)) (sym (term-step s k p lt))
     (sound-at ts (nat-at ts (k .types) (k .some-types)) (to-row ts (k .types)) (both-row ts (k .types)) (type-at ts es) (term-at s)
-        (r .ty) (r .number) (r .a) (r .b) (r .c) names q (r .kind) (leb-true (r .kind) 15 (g .kind))
-        (λ u. let b = a-below p r (g .parts) u in sound s k m (r .a) (omega arith) (omega arith))
-        (λ u. let b = b-below p r (g .parts) u in sound s k m (r .b) (omega arith) (omega arith))
-        (λ u. let b = c-below p r (g .parts) u in sound s k m (r .c) (omega arith) (omega arith))
-        (number-small (length ts) p r g)
-        parts)
+    (r .ty) (r .number) (r .a) (r .b) (r .c) names q (r .kind) (leb-true (r .kind) 15 (g .kind))
+    (λ u. let b = a-below p r (g .parts) u in sound s k m (r .a) (omega arith) (omega arith))
+    (λ u. let b = b-below p r (g .parts) u in sound s k m (r .b) (omega arith) (omega arith))
+    (λ u. let b = c-below p r (g .parts) u in sound s k m (r .c) (omega arith) (omega arith))
+    (number-small (length ts) p r g)
+    parts)
 
 -- ---- and a type by the judgement is found
 
@@ -121,12 +121,12 @@ complete s k (suc m) p h lt names v σ τ a b =
     let term-is = term-step s k p lt in
     subst (λ o. Outcome ts o σ τ) (sym (type-step ts es (kept-placed s k) p names lt))
     (complete-at ts (k .some-types) (k .few-types) (nat-at ts (k .types) (k .some-types))
-        (λ q q′ hq hq′. one-place ts (k .types) (k .some-types) (length ts) q q′ hq hq hq′)
-        (to-place ts (k .types) (k .some-types)) (both-place ts (k .types) (k .some-types))
-        (type-at ts es) (term-at s) p (r .ty) (r .number) (r .a) (r .b) (r .c) names v σ τ (r .kind) (leb-true (r .kind) 15 (g .kind))
-        (λ u. let b = a-below p r (g .parts) u in complete s k m (r .a) (omega arith) (omega arith))
-        (λ u. let b = b-below p r (g .parts) u in complete s k m (r .b) (omega arith) (omega arith))
-        (λ u. let b = c-below p r (g .parts) u in complete s k m (r .c) (omega arith) (omega arith))
-        (type-placed (length ts) p r g)
-        (subst (λ e. fill ts nat names ⊢ e ∶ σ) term-is a)
-        (subst (λ e. fill ts H names ⊢ e ∶ τ) term-is b))
+    (λ q q′ hq hq′. one-place ts (k .types) (k .some-types) (length ts) q q′ hq hq hq′)
+    (to-place ts (k .types) (k .some-types)) (both-place ts (k .types) (k .some-types))
+    (type-at ts es) (term-at s) p (r .ty) (r .number) (r .a) (r .b) (r .c) names v σ τ (r .kind) (leb-true (r .kind) 15 (g .kind))
+    (λ u. let b = a-below p r (g .parts) u in complete s k m (r .a) (omega arith) (omega arith))
+    (λ u. let b = b-below p r (g .parts) u in complete s k m (r .b) (omega arith) (omega arith))
+    (λ u. let b = c-below p r (g .parts) u in complete s k m (r .c) (omega arith) (omega arith))
+    (type-placed (length ts) p r g)
+    (subst (λ e. fill ts nat names ⊢ e ∶ σ) term-is a)
+    (subst (λ e. fill ts H names ⊢ e ∶ τ) term-is b))

@@ -6,6 +6,7 @@ ghost use Rattle.std.specs.declared.result.Result.the-variants.{Ok, Err};
 ghost use Rattle.rows.specs.Rows.{«nat-row», «leaf-row»};
 ghost use Rattle.checker.specs.Verdicts.{verdict, answer};
 ghost use Rattle.checker.specs.Sheets.{tables};
+ghost use Rattle.checker.specs.Theorems.{Rule, Means, Lasts};
 use crate::refusal::Refusal;
 use crate::sheet::Passed;
 use crate::verdict::judge;
@@ -49,6 +50,11 @@ impl<'t> Passed<'t> {
     {
         self.terms
     }
+
+    // What passing gives: the tables keep their laws, and the rule is closed and of type nat.
+    pub fn is_rule(&self)
+        ensures { λ _. ⌜ Rule (tables (now (self .entry))) ⌝ }
+    {}
 }
 
 // Fills the place with these tables where they pass; else says what is wrong, and leaves the place. The sight rows are
@@ -61,6 +67,8 @@ pub fn check<'t>(
 ) -> Result<(), Refusal>
     ensures answers { λ r. ⌜ r ≡ answer (verdict (now (types .entry), now (terms .entry)) (length (now (sight .entry)))) ⌝ }
     ensures filled { λ r. ⌜ elim r [ Ok _ ↦ tables (now (place .exit)) ≡ (now (types .entry), now (terms .entry)) | Err _ ↦ now (place .exit) ≡ now (place .entry) ] ⌝ }
+    ensures means { λ r. ⌜ Means (now (types .entry), now (terms .entry)) (length (now (sight .entry))) r ⌝ }
+    ensures lasts { λ r. ⌜ Lasts (now (types .entry), now (terms .entry)) (length (now (sight .entry))) r ⌝ }
 {
     judge(types, terms, sight)?;
     *place = Passed { types, terms };
