@@ -339,6 +339,7 @@ verdict-means s sight =
             let w = subst (Means s sight) (d .1) m .1 in
             let k = keeps s (w .lawful) in
             omega (arith, w .deep, shallow-so s k sight (enough s sight k h) (d .0) (w .context) (w .under));
+        shallow = λ h l. let k = keeps s l in shallow-so s k sight (enough s sight k h);
       },
     )
 

@@ -71,10 +71,12 @@ Means s sight (Err f) = (Rule s → Shallow s sight → ⊥) × Says s sight (f 
 abbrev pub Deep : Result (Unit {0}) Refusal → Type 0
 Deep r = (p : ℕ) × (r ≡ Err (refusal TooDeep p))
 
--- more sight rows change no other answer, and where they are as many as the term rows no answer is such a refusal
+-- more sight rows change no other answer; and where they are as many as the term rows, no answer is such a refusal, since
+-- no row of lawful tables is under more binders
 pub record Lasts (s : Tables) (sight : ℕ) (r : Result (Unit {0}) Refusal) : Type 0 where
   pub more : Deep r ⊎ ((many : ℕ) → sight ≤ many → answer (verdict s many) ≡ r)
   pub enough : length (s .1) ≤ sight → Deep r → ⊥
+  pub shallow : length (s .1) ≤ sight → Lawful s → Shallow s sight
 
 abbrev pub Verdict-means : Type 0
 Verdict-means = (s : Tables) (sight : ℕ) → Means s sight (answer (verdict s sight)) × Lasts s sight (answer (verdict s sight))

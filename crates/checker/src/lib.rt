@@ -6,6 +6,7 @@ mod parts;
 mod refusal;
 mod rules;
 mod sheet;
+mod theorems;
 mod types;
 mod verdict;
 
@@ -17,3 +18,4 @@ pub use refusal::RefusalDebug;
 pub use refusal::RefusalPartialEq;
 pub use sheet::Passed;
 pub use sheet::check::check;
+pub use theorems::verdict_means;
