@@ -4,5 +4,6 @@ pub mod Folds
 pub mod Induction
 pub mod Emit
 pub mod Stands
+pub mod Typing
 pub mod Laws
 pub mod Theorems

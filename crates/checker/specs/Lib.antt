@@ -1,0 +1,10 @@
+pub mod Lowest
+pub mod Faults
+pub mod RowTests
+pub mod Descents
+pub mod Depths
+pub mod Types
+pub mod Verdicts
+pub mod Contexts
+pub mod Theorems
+pub mod Sheets
