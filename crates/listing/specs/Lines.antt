@@ -6,12 +6,17 @@ use lib.Chars.{codes}
 use lib.Dec.{eqb}
 use lib.ListN.{length, getD, take}
 use Rattle.std.specs.Written.{decimal}
+use Rattle.std.specs.declared.option.Option.{Option}
+use Rattle.std.specs.declared.option.Option.the-variants.{Some, None}
 use Rattle.rows.specs.declared.tables.TypeRow.{TypeRow}
 use Rattle.rows.specs.declared.tables.TermRow.{TermRow}
 use Rattle.theory.specs.Emit.{Tables}
 use Rattle.grammar.specs.Faults.{number}
 use Rattle.grammar.specs.Reader.{Outcome, accepted, refused-at}
 use Rattle.grammar.specs.Theorems.{outcome-within}
+use Rattle.checker.specs.declared.refusal.Refusal.{Refusal}
+use Rattle.checker.specs.Faults.{number as checked-number}
+use Rattle.checker.specs.Verdicts.{verdict}
 
 -- the word of a row's kind
 abbrev pub type-word : ℕ → List ℕ
@@ -57,14 +62,24 @@ refusal-line n p = codes "refused " ++ (decimal n ++ (codes " place " ++ (decima
 abbrev pub listed : List TypeRow → List TermRow → List ℕ
 listed types terms = counts-line (length types) (length terms) ++ lines type-line 0 types ++ lines term-line 0 terms
 
+-- or the refusal of the check
+abbrev pub verdict-lines : Option Refusal → List TypeRow → List TermRow → List ℕ
+verdict-lines None types terms = listed types terms
+verdict-lines (Some f) types terms = refusal-line (checked-number (f .fault)) (f .row)
+
+-- of two tables, with 64 sight rows
+abbrev pub table-lines : Tables → List ℕ
+table-lines s = verdict-lines (verdict s 64) (s .0) (s .1)
+
+-- or the refusal of the reading
 abbrev pub outcome-lines : Outcome Tables ℕ → List ℕ
-outcome-lines (accepted s y) = listed (s .0) (s .1)
+outcome-lines (accepted s y) = table-lines s
 outcome-lines (refused-at f p) = refusal-line (number f) p
 
 -- an input without a line feed at its end
 abbrev pub chomped : List ℕ → List ℕ
 chomped bs = cond (eqb (getD bs (length bs - 1) 0) 10) (take (length bs - 1) bs) bs
 
--- the listing of a text, read with the most rows and with 64 open rows
+-- the listing of a text, read with the most rows and with 64 open rows, and then checked
 abbrev pub shown : List ℕ → List ℕ
 shown bs = outcome-lines (outcome-within 16384 1024 2048 1024 2048 64 bs)

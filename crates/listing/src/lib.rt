@@ -5,7 +5,10 @@ ghost use Prim.Native.Nat.{ℕ, _≤_, _<_};
 ghost use lib.ListN.{length, take};
 ghost use Rattle.std.specs.Of.String.{string-bytes};
 ghost use Rattle.std.specs.Vec.{made as «made-so»};
-ghost use Rattle.listing.specs.Lines.{«type-word», «term-word», «type-line-of», «term-head-of», «term-parts-of», «type-line», «term-line», lines, «counts-line», «refusal-line», chomped, listed, shown};
+ghost use Rattle.checker.specs.Verdicts.{verdict};
+ghost use Rattle.listing.specs.Theorems.{Read-rows-pass};
+ghost use Rattle.listing.specs.Lines.{«type-word», «term-word», «type-line-of», «term-head-of», «term-parts-of», «type-line», «term-line», lines, «counts-line», «refusal-line», chomped, listed, «verdict-lines», «table-lines», shown};
+use checker::Passed;
 use rows::MOST_TERMS;
 use rows::MOST_TYPES;
 use rows::TermRow;
@@ -17,6 +20,9 @@ use text::OpenForm;
 
 // How many brackets may be open at once, as at the till.
 const OPEN_ROWS: usize = 64;
+
+// How many names may be in sight at once, as at the till.
+const SIGHT_ROWS: usize = 64;
 
 // The word of a type row's kind.
 fn type_word(kind: u8) -> &'static str
@@ -144,6 +150,32 @@ fn add_terms(out: &mut String, heap: Global, terms: &[TermRow]) -> Result<(), Al
     Ok(())
 }
 
+// The listing of two tables: the counts and a line for each row.
+pub fn list_rows(heap: Global, types: &[TypeRow], terms: &[TermRow]) -> Result<String, AllocError>
+    ensures { λ r. ⌜ «made-so» r (λ s. string-bytes s ≡ listed (now (types .entry)) (now (terms .entry))) ⌝ }
+{
+    let mut out = counts_line(heap, types.len(), terms.len())?;
+    add_types(&mut out, heap, types)?;
+    add_terms(&mut out, heap, terms)?;
+    Ok(out)
+}
+
+// The listing of two tables that pass the check, or the refusal.
+fn list_passed<'t>(
+    heap: Global,
+    types: &'t [TypeRow],
+    terms: &'t [TermRow],
+) -> Result<String, AllocError>
+    ensures { λ r. ⌜ «made-so» r (λ s. string-bytes s ≡ «verdict-lines» (verdict (now (types .entry), now (terms .entry)) 64) (now (types .entry)) (now (terms .entry))) ⌝ }
+{
+    let mut sight = [0; SIGHT_ROWS];
+    let mut place = Passed::builtin();
+    match checker::check(types, terms, &mut sight, &mut place) {
+        Ok(()) => list_rows(heap, types, terms),
+        Err(refusal) => refusal_line(heap, refusal.fault.number(), refusal.row as usize),
+    }
+}
+
 // The listing of the rows that a reading made.
 fn list_made(
     heap: Global,
@@ -153,19 +185,10 @@ fn list_made(
 ) -> Result<String, AllocError>
     requires types { ⌜ made .types ≤ length (now types) ⌝ }
     requires terms { ⌜ made .terms ≤ length (now terms) ⌝ }
-    ensures { λ r. ⌜ «made-so» r (λ s. string-bytes s ≡ listed (take (made .types) (now (types .entry))) (take (made .terms) (now (terms .entry)))) ⌝ }
+    ensures { λ r. ⌜ «made-so» r (λ s. string-bytes s ≡ «table-lines» (take (made .types) (now (types .entry)), take (made .terms) (now (terms .entry)))) ⌝ }
 {
     let Counts { types: t, terms: u } = made;
-    list_rows(heap, &types[0..t], &terms[0..u])
-}
-
-fn list_rows(heap: Global, types: &[TypeRow], terms: &[TermRow]) -> Result<String, AllocError>
-    ensures { λ r. ⌜ «made-so» r (λ s. string-bytes s ≡ listed (now (types .entry)) (now (terms .entry))) ⌝ }
-{
-    let mut out = counts_line(heap, types.len(), terms.len())?;
-    add_types(&mut out, heap, types)?;
-    add_terms(&mut out, heap, terms)?;
-    Ok(out)
+    list_passed(heap, &types[0..t], &terms[0..u])
 }
 
 // The rule in what is typed or piped in: all of it, less a line feed at its end.
@@ -195,9 +218,17 @@ fn list_rule(heap: Global, rule: &[u8]) -> Result<String, AllocError>
     }
 }
 
-// The listing of a rule: the counts and a line for each row, or the refusal.
+// The listing of a rule: the counts and a line for each row, or the first refusal, of reading or of checking.
 pub fn list(heap: Global, input: &[u8]) -> Result<String, AllocError>
     ensures { λ r. ⌜ «made-so» r (λ s. string-bytes s ≡ shown (chomped (now (input .entry)))) ⌝ }
 {
     list_rule(heap, rule_in(input))
+}
+
+// What is read keeps the laws of tables, so that the check can refuse it only for its binders and types.
+pub fn read_rows_pass()
+    ensures { λ _. ⌜ Read-rows-pass 16384 1024 2048 ⌝ }
+{
+    grammar::reads_exactly();
+    checker::verdict_means();
 }

@@ -4,10 +4,13 @@ use crate::read_with;
 use crate::rows_left;
 use crate::spaced;
 use grammar::Fault;
+use rows::TermRow;
+use rows::TypeRow;
 use std::test::*;
 use text::Counts;
 use text::CountsDebug;
 use text::CountsPartialEq;
+use text::OpenForm;
 use text::Refusal;
 use text::RefusalDebug;
 use text::RefusalPartialEq;
@@ -22,7 +25,13 @@ fn refused(fault: Fault, place: usize) -> Result<Counts, Refusal> {
 
 // The lines of what a text is read as.
 fn listed(rt: &LibcRuntime, rule: &[u8], lines: &str) -> Result<(), Fail> {
-    let found = listing::list(rt.alloc(), rule)?;
+    let mut types = [TypeRow::ZERO; 8];
+    let mut terms = [TermRow::ZERO; 8];
+    let mut opens = [OpenForm::TermWord; 8];
+    let Counts { types: t, terms: u } = text::read(rule, &mut types, &mut terms, &mut opens)?;
+    check(t <= 8)?;
+    check(u <= 8)?;
+    let found = listing::list_rows(rt.alloc(), &types[0..t], &terms[0..u])?;
     check_eq(found.as_str(), lines)
 }
 
@@ -40,7 +49,7 @@ fn leaves(rt: LibcRuntime) -> Result<(), Fail> {
     )?;
     listed(
         &rt,
-        b"  999999999 \n",
+        b"  999999999 ",
         "types 1 terms 1\ntype 0: nat left 0 right 0\nterm 0: number type 0 number 999999999 parts 0 0 0\n",
     )
 }
@@ -212,4 +221,25 @@ fn rows_past_are_zero() -> Result<(), Fail> {
     check_eq(rows_left(b"(lam (to nat nat) 5)"), (1, 2))?;
     check_eq(rows_left(b"(lam (to nat nat) 5"), (0, 0))?;
     check_eq(rows_left(b"0"), (0, 0))
+}
+
+// Both refusals in one line, and a line feed at the end taken off.
+#[test]
+fn first_refusal(rt: LibcRuntime) -> Result<(), Fail> {
+    check_eq(
+        listing::list(rt.alloc(), b"(s 1")?.as_str(),
+        "refused 13 place 4\n",
+    )?;
+    check_eq(
+        listing::list(rt.alloc(), b"#0\n")?.as_str(),
+        "refused 26 place 0\n",
+    )?;
+    check_eq(
+        listing::list(rt.alloc(), b"(lam (to nat nat) #0)")?.as_str(),
+        "refused 27 place 1\n",
+    )?;
+    check_eq(
+        listing::list(rt.alloc(), b"(catch (fail (to nat nat)) 1)")?.as_str(),
+        "refused 26 place 2\n",
+    )
 }
