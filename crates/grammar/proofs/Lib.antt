@@ -7,4 +7,5 @@ pub mod Spelt
 pub mod Any
 pub mod Laid
 pub mod Numbers
+pub mod Tightly
 pub mod Theorems

@@ -7,4 +7,5 @@ pub mod Reader
 pub mod TableMaker
 pub mod TermTokens
 pub mod Renders
+pub mod Tight
 pub mod Theorems

