@@ -15,4 +15,5 @@ pub mod Walks
 pub mod Past
 pub mod Refusals
 pub mod Once
+pub mod Tightly
 pub mod Theorems

@@ -7,5 +7,6 @@ pub mod Reader
 pub mod TableMaker
 pub mod TermTokens
 pub mod Renders
+pub mod Tight
 pub mod Theorems
 pub mod Refusals

@@ -6,12 +6,14 @@ use Prim.Native.Nat.{ℕ, min, _≤_}
 use lib.Dec.{ltb, eqb}
 use lib.ListN.{length}
 use Rattle.theory.specs.Syntax.{Term}
+use Rattle.theory.specs.Folds.{largest}
 use Rattle.theory.specs.Emit.{Tables, empty, rows-of}
 use Rattle.theory.specs.Stands.{rule-of}
 use Rattle.theory.specs.Laws.{Lawful}
 use Rattle.grammar.specs.declared.fault.Fault.the-variants.{TooLong, NoTypeRow}
 use Rattle.grammar.specs.TermTokens.{depth}
 use Rattle.grammar.specs.Renders.{Renders}
+use Rattle.grammar.specs.Tight.{tight}
 use Rattle.grammar.specs.Reader.{Outcome, accepted, refused-at, read}
 use Rattle.grammar.specs.TableMaker.{into-tables}
 
@@ -53,3 +55,7 @@ Reads-exactly most-bytes most-types most-terms =
 -- a text is the text of one term at most
 abbrev pub Reads-once : Type 0
 Reads-once = (bs : List ℕ) (e a : Term) → Renders bs e → Renders bs a → e ≡ a
+
+-- the tight text of a term whose numbers are no larger than the largest is a text of it
+abbrev pub Tight-renders : ℕ → Type 0
+Tight-renders highest = (e : Term) → largest e ≤ highest → Renders (tight e) e

@@ -1,5 +1,5 @@
 // What the text of a rule is, and what reading one gives, in specs/. Each function here has a theorem for its contract.
-ghost use Rattle.grammar.specs.Theorems.{Reads-exactly, Reads-once};
+ghost use Rattle.grammar.specs.Theorems.{Reads-exactly, Reads-once, Tight-renders};
 ghost use Rattle.grammar.specs.Refusals.{Refuses-rightly, Wrong-once};
 
 mod bytes;
@@ -36,4 +36,9 @@ pub fn refuses_rightly()
 // A text goes wrong at one place at most, by one fault.
 pub fn wrong_once()
     ensures { λ _. ⌜ Wrong-once ⌝ }
+{}
+
+// The tight text of a term is a text of it.
+pub fn tight_renders()
+    ensures { λ _. ⌜ Tight-renders 999999999 ⌝ }
 {}
