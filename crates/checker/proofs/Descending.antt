@@ -25,7 +25,7 @@ use Rattle.checker.proofs.Counts.{arity-small, parts-are}
 use Rattle.checker.proofs.Placing.{a-below, b-below, c-below}
 use Rattle.checker.proofs.Sheets.{Good, Kept}
 use Rattle.checker.proofs.TermLaws.{row}
-use Rattle.checker.proofs.TypeRows.{ty-at, nat-at, to-row, both-row, parts-before, cases}
+use Rattle.checker.proofs.TypeRows.{nat-to, to-both, ty-at, nat-at, to-row, both-row, parts-before, cases}
 use Rattle.checker.proofs.Sound.{hole, context}
 use Rattle.checker.proofs.Complete.{Valid, proper}
 use Rattle.checker.proofs.Typed.{good-at, type-placed}
@@ -49,7 +49,7 @@ module _ (s : Tables) (k : Kept s) where
   lam-hole t h =
       let ts = s .0 in
       ⊎-elim
-      (λ (z : t ≡ 0). ap domain (ap (ty-at ts) z ∙ nat-at ts (k .types) (k .some-types)) ∙ none (not-to (λ e. to-nat _ _ (sym (to-row ts (k .types) t e) ∙ ap (ty-at ts) z ∙ nat-at ts (k .types) (k .some-types)))))
+      (λ (z : t ≡ 0). ap domain (ap (ty-at ts) z ∙ nat-at ts (k .types) (k .some-types)) ∙ none (not-to (λ e. nat-to _ _ (sym (sym (to-row ts (k .types) t e) ∙ ap (ty-at ts) z ∙ nat-at ts (k .types) (k .some-types))))))
       (⊎-elim
       (λ (e : is-to ts t ≡ true).
       let b = parts-before ts (k .types) t 0 (is-one e) in
@@ -65,12 +65,6 @@ module _ (s : Tables) (k : Kept s) where
 
       is-one : is-to (s .0) t ≡ true → row-of (s .0) t .kind ≡ 1
       is-one e = eqb-true (row-of (s .0) t .kind) 1 e
-
-      to-nat : (σ τ : Ty) → to σ τ ≡ nat → ⊥
-      to-nat σ τ e = let z : _≡_ {A = ℕ} 0 1 = cc in omega arith
-
-      to-both : (σ τ σ′ τ′ : Ty) → to σ τ ≡ both σ′ τ′ → ⊥
-      to-both σ τ σ′ τ′ e = let z : _≡_ {A = ℕ} 0 1 = cc in omega arith
 
   module _ (t n x y z : ℕ) (l : List ℕ) where
     first-names : (m : ℕ) → m ≤ 15 → (typed m ≡ true → t < length (s .0)) → names-of s (row m t n x y z) 0 ++ context (s .0) l ≡ context (s .0) (under (bound (s .0) (row m t n x y z)) l)

@@ -32,17 +32,17 @@ use Rattle.checker.specs.Verdicts.{refusal, at-row, misfit, sizes, rows-verdic
 use Rattle.checker.specs.Contexts.{Context, Fills, Has-type, row-at, Under}
 use Rattle.checker.specs.Theorems.{Rule, Shallow, Lowest-deep, Lowest-untyped, Other-type, Says, Means, Deep, Lasts, Verdict-means}
 use Rattle.checker.proofs.Deeps.{deep-step}
-use Rattle.checker.proofs.Shallows.{some-none, shallow, opens-bound}
+use Rattle.checker.proofs.Shallows.{some-none, some-same, shallow, opens-bound}
 use Rattle.checker.proofs.Sights.{length-under}
 use Rattle.checker.proofs.Sheets.{Kept, kept, kept-placed}
 use Rattle.checker.proofs.TableLaws.{lawful, keeps, kept-so}
 use Rattle.checker.proofs.TypeRows.{ty-at, nat-at, one-place}
 use Rattle.checker.proofs.Typings.{type-step}
 use Rattle.checker.proofs.Sound.{err-ok, at, hole, context}
-use Rattle.checker.proofs.Complete.{Outcome, Typed, solid, fill, H, nat-apart}
+use Rattle.checker.proofs.Complete.{Typed, solid, fill, H}
 use Rattle.checker.proofs.Typed.{sound, complete}
-use Rattle.checker.proofs.Lifts.{Passing, passing, enough}
-use Rattle.checker.proofs.Faulty.{some-same, option-cases, found, every}
+use Rattle.checker.proofs.Lifts.{enough}
+use Rattle.checker.proofs.Faulty.{option-cases, found, every}
 use Rattle.checker.proofs.Descending.{Reached}
 
 length-context : (ts : List TypeRow) (l : List ℕ) → length (context ts l) ≡ length l
@@ -353,3 +353,18 @@ passes-rule s e = subst (Means s (length (s .1))) (ap answer (none-of (verdict s
 -- and so does an answer that is the verdict's
 pub told : (s : Tables) (sight : ℕ) (r : Result (Unit {0}) Refusal) → r ≡ answer (verdict s sight) → Means s sight r × Lasts s sight r
 told s sight r e = subst (λ o. Means s sight o × Lasts s sight o) (sym e) (verdict-means s sight)
+
+pub answered : (o : Option Refusal) (x : Unit {0}) → Ok x ≡ answer o → o ≡ None
+answered None x e = refl
+answered (Some f) x e = absurd (let z : _≡_ {A = ℕ} 0 1 = cc in omega arith)
+
+-- tables that pass do so with sight rows enough
+pub passes-so : (s : Tables) (sight : ℕ) → verdict s sight ≡ None → passes s ≡ true
+passes-so s sight e =
+    let r = subst (λ o. Means s sight (answer o)) e (verdict-means s sight .0) .0 in
+    let m = verdict-means s (length (s .1)) in
+    go (verdict s (length (s .1))) (m .0) r (m .1 .shallow (omega arith) (r .lawful))
+  where
+    go : (o : Option Refusal) → Means s (length (s .1)) (answer o) → Rule s → Shallow s (length (s .1)) → not (isSome o) ≡ true
+    go None m r h = refl
+    go (Some f) m r h = absurd (m .0 r h)

@@ -26,6 +26,9 @@ use Rattle.checker.proofs.Placing.{a-below, b-below, c-below}
 pub some-none : {A : Type 0} (x : A) → Some x ≡ None → ⊥
 some-none x e = let z : _≡_ {A = ℕ} 0 1 = cc in omega arith
 
+pub some-same : {A : Type 0} {x y : A} → _≡_ {A = Option A} (Some x) (Some y) → x ≡ y
+some-same e = cc
+
 pub first-none : {A : Type 0} (x y : Option A) → first-of x y ≡ None → (x ≡ None) × (y ≡ None)
 first-none None y e = (refl, e)
 first-none (Some x) y e = absurd (some-none x e)

@@ -32,19 +32,19 @@ types-are : (Ts : List Ty) (ts : List TypeRow) → types-from Ts ts ≡ rows-as 
 types-are Ts [] = refl
 types-are Ts (r ∷ rs) = types-are (Ts ++ type-of-row Ts r ∷ []) rs
 
-nat-to : (σ τ : Ty) → nat ≡ to σ τ → ⊥
+pub nat-to : (σ τ : Ty) → nat ≡ to σ τ → ⊥
 nat-to σ τ e = let z : _≡_ {A = ℕ} 0 1 = cc in omega arith
 
-nat-both : (σ τ : Ty) → nat ≡ both σ τ → ⊥
+pub nat-both : (σ τ : Ty) → nat ≡ both σ τ → ⊥
 nat-both σ τ e = let z : _≡_ {A = ℕ} 0 1 = cc in omega arith
 
-to-both : (σ τ σ′ τ′ : Ty) → to σ τ ≡ both σ′ τ′ → ⊥
+pub to-both : (σ τ σ′ τ′ : Ty) → to σ τ ≡ both σ′ τ′ → ⊥
 to-both σ τ σ′ τ′ e = let z : _≡_ {A = ℕ} 0 1 = cc in omega arith
 
-to-parts : (σ τ σ′ τ′ : Ty) → to σ τ ≡ to σ′ τ′ → (σ ≡ σ′) × (τ ≡ τ′)
+pub to-parts : (σ τ σ′ τ′ : Ty) → to σ τ ≡ to σ′ τ′ → (σ ≡ σ′) × (τ ≡ τ′)
 to-parts σ τ σ′ τ′ e = (cc, cc)
 
-both-parts : (σ τ σ′ τ′ : Ty) → both σ τ ≡ both σ′ τ′ → (σ ≡ σ′) × (τ ≡ τ′)
+pub both-parts : (σ τ σ′ τ′ : Ty) → both σ τ ≡ both σ′ τ′ → (σ ≡ σ′) × (τ ≡ τ′)
 both-parts σ τ σ′ τ′ e = (cc, cc)
 
 module _ (ts : List TypeRow) (good : lowest (good-type ts) (length ts) ≡ None) where
