@@ -63,7 +63,7 @@ pub fn chain_of_terms(first: TermRow, kind: u8) -> [TermRow; TERMS] {
 }
 
 // What the checker says of two tables, with so many sight rows, at most as many as there may be terms.
-pub fn judged(types: &[TypeRow], terms: &[TermRow], sight: usize) -> Result<(), Refusal> {
+pub fn judged<'t>(types: &'t [TypeRow], terms: &'t [TermRow], sight: usize) -> Result<(), Refusal> {
     let mut rows = [7u32; TERMS];
     let n = sight.min(TERMS);
     let mut place = Passed::builtin();
@@ -89,7 +89,11 @@ pub fn judged_text(rule: &[u8], sight: usize) -> Result<(), Refusal> {
 }
 
 // How many rows the place holds after a check with a sight row: those of the sheet that passed last.
-pub fn rows_held(types: &[TypeRow], terms: &[TermRow], then: &[TermRow]) -> (usize, usize) {
+pub fn rows_held<'t>(
+    types: &'t [TypeRow],
+    terms: &'t [TermRow],
+    then: &'t [TermRow],
+) -> (usize, usize) {
     let mut rows = [0u32; 1];
     let mut place = Passed::builtin();
     let _ = check(types, terms, &mut rows, &mut place);
