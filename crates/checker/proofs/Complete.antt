@@ -6,18 +6,18 @@ use mathlib.Core.Logic.{_⊎_, inl, inr, ⊎-elim}
 use Prim.Native.Nat.{ℕ, zero, suc, _<_, _≤_}
 use native.Mathlib.Omega.{arith}
 use lib.Dec.{eqb, ltb}
-use lib.ListN.{length, getD}
+use lib.ListN.{length}
 use Rattle.std.specs.shelf.Lists.{All}
 use Rattle.std.specs.declared.option.Option.{Option}
 use Rattle.std.specs.declared.option.Option.the-variants.{Some, None}
-use Rattle.std.specs.declared.result.Result.the-variants.{Ok, Err}
+use Rattle.std.specs.declared.result.Result.the-variants.{Ok}
 use Rattle.std.specs.shelf.Maps.{nth}
 use Rattle.std.proofs.shelf.Tests.{and-from, eq-eqb, ne-eqb, cond-true, cond-false}
 use Rattle.rows.specs.declared.tables.TypeRow.{TypeRow}
 use Rattle.rows.specs.declared.tables.TermRow.{TermRow}
-use Rattle.theory.specs.Syntax.{Ty, nat, to, both, One, succ, fst, snd, get, Op, add, sub, mul, Two, calc, pair, Term, num, name, one, two, ifz, lam, app, fix, fail, catch}
+use Rattle.theory.specs.Syntax.{Ty, nat, to, both, succ, fst, snd, get, Op, calc, pair, Term, num, name, one, two, ifz, lam, app, fix, fail, catch}
 use Rattle.theory.specs.Typing.{_⊢_∶_, ⊢num, ⊢name, ⊢one, ⊢two, ⊢ifz, ⊢lam, ⊢app, ⊢fix, ⊢fail, ⊢catch}
-use Rattle.theory.specs.Typing.{Makes₁, of-succ, of-get, of-fst, of-snd, Makes₂, of-pair, of-calc}
+use Rattle.theory.specs.Typing.{of-succ, of-get, of-fst, of-snd, of-pair, of-calc}
 use Rattle.checker.specs.RowTests.{arity, typed}
 use Rattle.checker.specs.Types.{Found, settled, joined, need, known, own-type, row-of, is-to, is-both, no-type, type-form}
 use Rattle.checker.proofs.ByKind.{kinds}

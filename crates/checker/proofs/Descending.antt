@@ -1,29 +1,25 @@
 -- Going down the rows of a rule, with the names that each stands under.
 use mathlib.Core.Path.{_≡_, refl, sym, ap, _∙_, subst}
-use mathlib.Core.List.{List, [], _∷_, _++_, map}
-use mathlib.Core.Bool.{Bool, true, false, cond}
+use mathlib.Core.List.{List, [], _∷_, _++_}
+use mathlib.Core.Bool.{true, false, cond}
 use mathlib.Core.Logic.{_⊎_, inl, inr, ⊎-elim}
 use Prim.Native.Nat.{ℕ, zero, suc, _+_, _-_, _<_, _≤_}
 use native.Mathlib.Omega.{arith}
 use lib.Dec.{eqb, ltb}
-use lib.ListN.{length, getD, take}
-use Rattle.std.specs.declared.option.Option.{Option}
+use lib.ListN.{length, getD}
 use Rattle.std.specs.declared.option.Option.the-variants.{Some, None}
 use Rattle.std.proofs.shelf.Lists.{getD-take, length-take-le}
-use Rattle.std.proofs.shelf.Tests.{leb-true, ltb-true, lt-ltb, eqb-true, eq-eqb, ne-eqb, cond-true, cond-false, cases-bool, false≢true}
-use Rattle.rows.specs.declared.tables.TypeRow.{TypeRow}
+use Rattle.std.proofs.shelf.Tests.{leb-true, ltb-true, lt-ltb, eqb-true, cond-true, cond-false, cases-bool, false≢true}
 use Rattle.rows.specs.declared.tables.TermRow.{TermRow}
-use Rattle.theory.specs.Syntax.{Ty, nat, to, both}
 use Rattle.theory.specs.Emit.{Tables}
-use Rattle.theory.specs.Stands.{types-from}
 use Rattle.theory.specs.Laws.{parts-of}
-use Rattle.checker.specs.RowTests.{no-row, arity, typed}
+use Rattle.checker.specs.RowTests.{arity, typed}
 use Rattle.checker.specs.Types.{bound, under, row-of, is-to, is-both, no-type}
 use Rattle.checker.specs.Contexts.{Context, domain, row-at, names-of, Under, rule, part}
 use Rattle.checker.proofs.ByKind.{kinds}
 use Rattle.checker.proofs.Counts.{arity-small, parts-are}
 use Rattle.checker.proofs.Placing.{a-below, b-below, c-below}
-use Rattle.checker.proofs.Sheets.{Good, Kept}
+use Rattle.checker.proofs.Sheets.{Kept}
 use Rattle.checker.proofs.TermLaws.{row}
 use Rattle.checker.proofs.TypeRows.{nat-to, to-both, ty-at, nat-at, to-row, both-row, parts-before, cases}
 use Rattle.checker.proofs.Sound.{hole, context}

@@ -1,11 +1,11 @@
 -- The test of term rows is the laws of term rows.
 use mathlib.Core.Path.{_≡_, refl, sym, ap, _∙_, subst}
 use mathlib.Core.List.{List, [], _∷_}
-use mathlib.Core.Bool.{Bool, true, false, cond, _&&_}
+use mathlib.Core.Bool.{Bool, true, false, _&&_}
 use Prim.Native.Nat.{ℕ, zero, suc, _<_, _≤_}
 use native.Mathlib.Omega.{arith}
 use lib.Dec.{eqb, leb, ltb}
-use lib.ListN.{length, getD, take}
+use lib.ListN.{length, getD}
 use Rattle.std.proofs.shelf.Tests.{and-parts, and-from, ltb-true, lt-ltb, leb-true, eqb-true}
 use Rattle.rows.specs.Limits.{top}
 use Rattle.rows.specs.declared.tables.TermRow.{TermRow}
@@ -14,7 +14,7 @@ use Rattle.rows.specs.declared.forms.Form.the-variants.{Succ, Ifz, Lam, Ap, Fix
 use Rattle.rows.specs.Forms.{kind, types, parts}
 use Rattle.rows.specs.Rows.{leaf-row, form-row}
 use Rattle.theory.specs.Laws.{Below, Row, leaf, form}
-use Rattle.checker.specs.RowTests.{no-row, arity, typed, placed, parts-placed, good-row}
+use Rattle.checker.specs.RowTests.{arity, typed, placed, parts-placed, good-row}
 use Rattle.checker.proofs.ByKind.{kinds}
 use Rattle.checker.proofs.Counts.{few-parts}
 use Rattle.checker.proofs.Sheets.{Good}

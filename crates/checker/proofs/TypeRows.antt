@@ -1,7 +1,7 @@
 -- What the rows of a type table stand for.
 use mathlib.Core.Path.{_≡_, refl, sym, ap, _∙_}
 use mathlib.Core.List.{List, [], _∷_, _++_}
-use mathlib.Core.Bool.{Bool, true, false, cond}
+use mathlib.Core.Bool.{true, cond}
 use mathlib.Core.Logic.{_⊎_, inl, inr, ⊎-elim}
 use Prim.Native.Nat.{ℕ, zero, suc, _<_, _≤_}
 use native.Mathlib.Omega.{arith}
@@ -9,7 +9,7 @@ use lib.Dec.{eqb}
 use lib.ListN.{length, getD, take}
 use Rattle.std.specs.declared.option.Option.the-variants.{None}
 use Rattle.std.proofs.shelf.Lists.{getD-take, getD-past}
-use Rattle.std.proofs.shelf.Tests.{eqb-true, eq-eqb, ne-eqb, cond-true, cond-false, cases-lt, cases-eq, cases-order}
+use Rattle.std.proofs.shelf.Tests.{eqb-true, eq-eqb, ne-eqb, cond-false, cases-lt, cases-eq, cases-order}
 use Rattle.rows.specs.declared.tables.TypeRow.{TypeRow}
 use Rattle.rows.specs.declared.forms.Shape.{Shape}
 use Rattle.rows.specs.declared.forms.Shape.the-variants.{To, Both}

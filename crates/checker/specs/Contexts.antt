@@ -11,7 +11,7 @@ use Rattle.rows.specs.declared.forms.Form.the-variants.{Succ, Ifz, Lam, Ap, Fix
 use Rattle.rows.specs.Forms.{form-at}
 use Rattle.theory.specs.Syntax.{Ty, nat, to, both, Term}
 use Rattle.theory.specs.Emit.{Tables}
-use Rattle.theory.specs.Stands.{types-from, term-at}
+use Rattle.theory.specs.Stands.{types-from}
 use Rattle.theory.specs.Laws.{parts-of}
 use Rattle.theory.specs.Typing.{_⊢_∶_}
 use Rattle.checker.specs.RowTests.{no-row}

@@ -1,7 +1,5 @@
 // What the rows of a kind have.
 ghost use mathlib.Core.Path.{_≡_};
-ghost use mathlib.Core.Bool.{true};
-ghost use Prim.Native.Nat.{_≤_};
 ghost use Rattle.rows.specs.Forms.{«form-at»};
 ghost use Rattle.checker.specs.RowTests.{arity, typed};
 use rows::Form;

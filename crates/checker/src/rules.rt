@@ -2,7 +2,7 @@
 ghost use mathlib.Core.Path.{_≡_};
 ghost use mathlib.Core.Bool.{_&&_};
 ghost use Prim.Native.Nat.{_<_, _≤_};
-ghost use lib.ListN.{length, getD};
+ghost use lib.ListN.{length};
 ghost use Rattle.rows.specs.Rows.{«row-alike», «row-place»};
 ghost use Rattle.checker.specs.Lowest.{lowest};
 ghost use Rattle.checker.specs.RowTests.{compound, «good-type», placed, «parts-placed», «good-row», «good-term»};

@@ -1,11 +1,10 @@
 // The types of rows. A type is the place of its type row, and nat is at 0.
 ghost use mathlib.Core.Path.{_≡_};
 ghost use mathlib.Core.Bool.{cond};
-ghost use Prim.Native.Nat.{ℕ, _+_, _<_, _≤_};
+ghost use Prim.Native.Nat.{_+_, _<_, _≤_};
 ghost use lib.ListN.{length, drop};
 ghost use Rattle.std.specs.Options.{isSome};
 ghost use Rattle.std.specs.declared.option.Option.the-variants.{Some, None};
-ghost use Rattle.std.specs.shelf.Maps.{nth};
 ghost use Rattle.rows.specs.Views.{view, room};
 ghost use Rattle.checker.specs.RowTests.{«Parts-placed»};
 ghost use Rattle.checker.specs.Depths.{«deep-at»};
@@ -56,7 +55,7 @@ fn type_by_rule(types: &[TypeRow], form: Form, t: u32, x: u32, y: u32, z: u32) -
     ensures { λ o. ⌜ o ≡ rule (now (types .entry)) form t x y z ⌝ }
 {
     match form {
-        Form::Succ => needed(x == 0, 0),
+        Form::Succ | Form::Get => needed(x == 0, 0),
         Form::Ifz => needed(x == 0 && y == z, y),
         Form::Lam => {
             let own = row_at(types, t);
@@ -79,10 +78,7 @@ fn type_by_rule(types: &[TypeRow], form: Form, t: u32, x: u32, y: u32, z: u32) -
             let pair = row_at(types, x);
             needed(pair.kind == 2, pair.right)
         }
-        Form::Add => needed(x == 0 && y == 0, 0),
-        Form::Sub => needed(x == 0 && y == 0, 0),
-        Form::Mul => needed(x == 0 && y == 0, 0),
-        Form::Get => needed(x == 0, 0),
+        Form::Add | Form::Sub | Form::Mul => needed(x == 0 && y == 0, 0),
         Form::Fail => Some(t),
         Form::Catch => needed(x == y, x),
     }
