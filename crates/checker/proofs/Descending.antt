@@ -28,10 +28,10 @@ use Rattle.checker.proofs.Typed.{good-at, type-placed}
 
 -- ---- the parts of a row
 
-count : (r : TermRow) → length (parts-of r) ≡ arity (r .kind)
+pub count : (r : TermRow) → length (parts-of r) ≡ arity (r .kind)
 count r = ap length (parts-are r) ∙ length-take-le (arity (r .kind)) (r .a ∷ r .b ∷ r .c ∷ []) (arity-small (r .kind))
 
-place : (r : TermRow) (i : ℕ) → i < arity (r .kind) → getD (parts-of r) i 0 ≡ getD (r .a ∷ r .b ∷ r .c ∷ []) i 0
+pub place : (r : TermRow) (i : ℕ) → i < arity (r .kind) → getD (parts-of r) i 0 ≡ getD (r .a ∷ r .b ∷ r .c ∷ []) i 0
 place r i h = ap (λ l. getD l i 0) (parts-are r) ∙ getD-take (arity (r .kind)) (r .a ∷ r .b ∷ r .c ∷ []) i 0 h
 
 -- ---- and their names

@@ -66,3 +66,9 @@ Fills (Some σ ∷ Γ) (τ ∷ Θ) = (σ ≡ τ) × Fills Γ Θ
 -- a term has a type in a context where it has it whatever the names without a type are
 abbrev pub Has-type : Context → Term → Ty → Type 0
 Has-type Γ e τ = (Θ : List Ty) → Fills Γ Θ → Θ ⊢ e ∶ τ
+
+-- a row stands under one context, and no other
+pub record Placed (s : Tables) (p : ℕ) : Type 0 where
+  pub context : Context
+  pub under : Under s p context
+  pub only : (Γ : Context) → Under s p Γ → Γ ≡ context

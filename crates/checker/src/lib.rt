@@ -18,4 +18,5 @@ pub use refusal::RefusalDebug;
 pub use refusal::RefusalPartialEq;
 pub use sheet::Passed;
 pub use sheet::check::check;
+pub use theorems::rows_placed;
 pub use theorems::verdict_means;
