@@ -4,6 +4,11 @@ ghost use Rattle.rows.specs.Forms.{«form-at»};
 ghost use Rattle.checker.specs.RowTests.{arity, typed};
 use rows::Form;
 
+// The kinds of the type rows of functions and of pairs.
+pub const TO: u8 = 1;
+
+pub const BOTH: u8 = 2;
+
 // The form of a kind from 2 to 15.
 pub fn form_of(kind: u8) -> Form
     ensures { λ r. ⌜ r ≡ «form-at» kind ⌝ }

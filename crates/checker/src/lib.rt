@@ -7,6 +7,7 @@ mod refusal;
 mod rules;
 mod sheet;
 mod theorems;
+mod type_rules;
 mod types;
 mod verdict;
 
