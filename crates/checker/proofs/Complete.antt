@@ -6,24 +6,24 @@ use mathlib.Core.Logic.{_⊎_, inl, inr, ⊎-elim}
 use Prim.Native.Nat.{ℕ, zero, suc, _<_, _≤_}
 use native.Mathlib.Omega.{arith}
 use lib.Dec.{eqb, ltb}
-use lib.ListN.{length, getD}
+use lib.ListN.{length}
 use Rattle.std.specs.shelf.Lists.{All}
 use Rattle.std.specs.declared.option.Option.{Option}
 use Rattle.std.specs.declared.option.Option.the-variants.{Some, None}
-use Rattle.std.specs.declared.result.Result.the-variants.{Ok, Err}
+use Rattle.std.specs.declared.result.Result.the-variants.{Ok}
 use Rattle.std.specs.shelf.Maps.{nth}
 use Rattle.std.proofs.shelf.Tests.{and-from, eq-eqb, ne-eqb, cond-true, cond-false}
 use Rattle.rows.specs.declared.tables.TypeRow.{TypeRow}
 use Rattle.rows.specs.declared.tables.TermRow.{TermRow}
-use Rattle.theory.specs.Syntax.{Ty, nat, to, both, One, succ, fst, snd, get, Op, add, sub, mul, Two, calc, pair, Term, num, name, one, two, ifz, lam, app, fix, fail, catch}
+use Rattle.theory.specs.Syntax.{Ty, nat, to, both, succ, fst, snd, get, Op, calc, pair, Term, num, name, one, two, ifz, lam, app, fix, fail, catch}
 use Rattle.theory.specs.Typing.{_⊢_∶_, ⊢num, ⊢name, ⊢one, ⊢two, ⊢ifz, ⊢lam, ⊢app, ⊢fix, ⊢fail, ⊢catch}
-use Rattle.theory.specs.Typing.{Makes₁, of-succ, of-get, of-fst, of-snd, Makes₂, of-pair, of-calc}
+use Rattle.theory.specs.Typing.{of-succ, of-get, of-fst, of-snd, of-pair, of-calc}
 use Rattle.checker.specs.RowTests.{arity, typed}
 use Rattle.checker.specs.Types.{Found, settled, joined, need, known, own-type, row-of, is-to, is-both, no-type, type-form}
 use Rattle.checker.proofs.ByKind.{kinds}
-use Rattle.checker.proofs.Shallows.{some-none}
+use Rattle.checker.proofs.Shallows.{some-none, some-same}
 use Rattle.checker.proofs.TermLaws.{row}
-use Rattle.checker.proofs.TypeRows.{ty-at}
+use Rattle.checker.proofs.TypeRows.{nat-to, nat-both, to-parts, both-parts, ty-at}
 use Rattle.checker.proofs.Sound.{term-form}
 
 -- ---- what a typed form tells of its parts
@@ -95,13 +95,10 @@ Outcome ts o σ τ = (Typed ts o σ × (σ ≡ τ)) ⊎ ((σ ≡ nat) × (τ ≡
 abbrev pub Finds : List TypeRow → (List ℕ → Found) → Term → Type 0
 Finds ts f e = (l : List ℕ) → Valid (length ts) l → (σ τ : Ty) → fill ts nat l ⊢ e ∶ σ → fill ts H l ⊢ e ∶ τ → Outcome ts (f l) σ τ
 
-pub nat-apart : (σ ρ : Ty) → nat ≡ both σ ρ → ⊥
-nat-apart σ ρ e = let z : _≡_ {A = ℕ} 0 1 = cc in omega arith
-
 -- a type that is the same both times is found
 pub solid : (ts : List TypeRow) (o : Found) (σ τ : Ty) → σ ≡ τ → Outcome ts o σ τ → Typed ts o σ
 solid ts o σ τ e (inl (w, q)) = w
-solid ts o σ τ e (inr (a, b)) = absurd (nat-apart nat nat (sym a ∙ e ∙ b))
+solid ts o σ τ e (inr (a, b)) = absurd (nat-both nat nat (sym a ∙ e ∙ b))
 
 -- the parts and the rule put together
 made : (ts : List TypeRow) (i : ℕ) (r : TermRow) (v : Option ℕ) (x y z : Found) (px py pz p : ℕ) → x ≡ Ok px → y ≡ Ok py → z ≡ Ok pz → own-type ts r v px py pz ≡ Some p → joined ts i r v x y z ≡ Ok p
@@ -125,17 +122,14 @@ module _ (ts : List TypeRow) (few : length ts ≤ 1024) where
       let q = eq-eqb t no-type e in
       let x = cond-true (eqb t no-type) nat (ty-at ts t) q in
       let y = cond-true (eqb t no-type) H (ty-at ts t) q in
-      inr (some-in (sym a ∙ ap (λ o. Some o) x), some-in (sym b ∙ ap (λ o. Some o) y)))
+      inr (some-same (sym a ∙ ap (λ o. Some o) x), some-same (sym b ∙ ap (λ o. Some o) y)))
       (λ (h : t < length ts).
       let q = proper t h in
       let x = cond-false (eqb t no-type) nat (ty-at ts t) q in
       let y = cond-false (eqb t no-type) H (ty-at ts t) q in
-      let e = some-in (sym (ap (λ o. Some o) x) ∙ a) in
-      inl (t, cond-false (eqb t no-type) None (Some t) q, h, e, sym e ∙ some-in (sym (ap (λ o. Some o) y) ∙ b)))
+      let e = some-same (sym (ap (λ o. Some o) x) ∙ a) in
+      inl (t, cond-false (eqb t no-type) None (Some t) q, h, e, sym e ∙ some-same (sym (ap (λ o. Some o) y) ∙ b)))
       (v .0)
-    where
-      some-in : {u w : Ty} → _≡_ {A = Option Ty} (Some u) (Some w) → u ≡ w
-      some-in e = cc
   seen (t ∷ l) (suc d) σ τ v a b = seen l d σ τ (v .1) a b
 
   -- a name with a type more in sight
@@ -179,16 +173,6 @@ module _ (ts : List TypeRow) (some : 0 < length ts) (few : length ts ≤ 1024) (
       let b = solid ts (f y l) nat nat refl (ib l v nat nat (w .2) (u .2)) in
       inl (record { place = 0; valid = some; is = made ts i (row k t n x y z) (nth l n) (f x l) (f y l) (Ok 0) (a .place) (b .place) 0 0 (a .is) (b .is) refl (ru (a .place) (b .place) ∙ needs-true (eqb (a .place) 0 && eqb (b .place) 0) 0 (and-from (eqb (a .place) 0) (eqb (b .place) 0) (is-zero _ a) (is-zero _ b))); type = nat-is ∙ sym (w .0) }, w .0 ∙ sym (u .0))
 
-  -- a part with one type both times, under a name of that type
-  to-same : (σ ρ σ′ ρ′ : Ty) → to σ ρ ≡ to σ′ ρ′ → (σ ≡ σ′) × (ρ ≡ ρ′)
-  to-same σ ρ σ′ ρ′ e = (cc, cc)
-
-  both-same : (σ ρ σ′ ρ′ : Ty) → both σ ρ ≡ both σ′ ρ′ → (σ ≡ σ′) × (ρ ≡ ρ′)
-  both-same σ ρ σ′ ρ′ e = (cc, cc)
-
-  to-nat : (σ ρ : Ty) → to σ ρ ≡ nat → ⊥
-  to-nat σ ρ e = let z : _≡_ {A = ℕ} 0 1 = cc in omega arith
-
   name-case : (typed 1 ≡ true → t < length ts) → nth (fill ts nat l) n ≡ Some σ → nth (fill ts H l) n ≡ Some τ → Outcome ts (settled i None (known (nth l n))) σ τ
   name-case it a b =
       ⊎-elim
@@ -221,7 +205,7 @@ module _ (ts : List TypeRow) (some : 0 < length ts) (few : length ts ≤ 1024) (
       let w = inv-lam a in
       let u = inv-lam b in
       let tv = it refl in
-      let same = to-same _ _ _ _ (sym (w .2) ∙ u .2) in
+      let same = to-parts _ _ _ _ (sym (w .2) ∙ u .2) in
       let q = to-is t (w .0) (w .1) tv (w .2) in
       let lt : row-of ts t .left < length ts = omega (arith, q .1, tv) in
       let c = solid ts (f x (row-of ts t .left ∷ l)) (w .1) (u .1) (same .1) (ia refl (row-of ts t .left ∷ l) (inr lt, v) (w .1) (u .1) (named ts few nat (row-of ts t .left) l (g x) (w .0) (w .1) lt (q .3) (w .4)) (named ts few H (row-of ts t .left) l (g x) (u .0) (u .1) lt (q .3 ∙ same .0) (u .4))) in
@@ -233,11 +217,11 @@ module _ (ts : List TypeRow) (some : 0 < length ts) (few : length ts ≤ 1024) (
       ⊎-elim
       (λ (m : Typed ts (f x l) (to (w .0) σ) × (to (w .0) σ ≡ to (u .0) τ)).
       let h = m .0 in
-      let same = to-same _ _ _ _ (m .1) in
+      let same = to-parts _ _ _ _ (m .1) in
       let c = solid ts (f y l) (w .0) (u .0) (same .0) (ib refl l v (w .0) (u .0) (w .2) (u .2)) in
       let q = to-is (h .place) (w .0) σ (h .valid) (h .type) in
       inl (record { place = row-of ts (h .place) .right; valid = omega (arith, q .2, h .valid); is = made ts i (row 5 t n x y z) (nth l n) (f x l) (f y l) (Ok 0) (h .place) (c .place) 0 (row-of ts (h .place) .right) (h .is) (c .is) refl (needs-true (is-to ts (h .place) && eqb (c .place) (row-of ts (h .place) .left)) (row-of ts (h .place) .right) (and-from (is-to ts (h .place)) (eqb (c .place) (row-of ts (h .place) .left)) (q .0) (same-of (c .place) (row-of ts (h .place) .left) (c .valid) (omega (arith, q .1, h .valid)) (c .type ∙ sym (q .3))))); type = q .4 }, same .1))
-      (λ (m : (to (w .0) σ ≡ nat) × (to (u .0) τ ≡ H)). absurd (to-nat (w .0) σ (m .0)))
+      (λ (m : (to (w .0) σ ≡ nat) × (to (u .0) τ ≡ H)). absurd (nat-to (w .0) σ (sym (m .0))))
       (ia refl l v (to (w .0) σ) (to (u .0) τ) (w .1) (u .1)))
       (λ ia ib ic it a b.
       let w = inv-fix a in
@@ -249,7 +233,7 @@ module _ (ts : List TypeRow) (some : 0 < length ts) (few : length ts ≤ 1024) (
       let w = inv-pair a in
       let u = inv-pair b in
       let tv = it refl in
-      let same = both-same _ _ _ _ (sym (w .2) ∙ u .2) in
+      let same = both-parts _ _ _ _ (sym (w .2) ∙ u .2) in
       let q = both-is t (w .0) (w .1) tv (w .2) in
       let c = solid ts (f x l) (w .0) (u .0) (same .0) (ia refl l v (w .0) (u .0) (w .4) (u .4)) in
       let d = solid ts (f y l) (w .1) (u .1) (same .1) (ib refl l v (w .1) (u .1) (w .5) (u .5)) in
@@ -261,8 +245,8 @@ module _ (ts : List TypeRow) (some : 0 < length ts) (few : length ts ≤ 1024) (
       (λ (m : Typed ts (f x l) (both σ (w .0)) × (both σ (w .0) ≡ both τ (u .0))).
       let h = m .0 in
       let q = both-is (h .place) σ (w .0) (h .valid) (h .type) in
-      inl (record { place = row-of ts (h .place) .left; valid = omega (arith, q .1, h .valid); is = made ts i (row 8 t n x y z) (nth l n) (f x l) (Ok 0) (Ok 0) (h .place) 0 0 (row-of ts (h .place) .left) (h .is) refl refl (needs-true (is-both ts (h .place)) (row-of ts (h .place) .left) (q .0)); type = q .3 }, both-same _ _ _ _ (m .1) .0))
-      (λ (m : (both σ (w .0) ≡ nat) × (both τ (u .0) ≡ H)). absurd (nat-apart σ (w .0) (sym (m .0))))
+      inl (record { place = row-of ts (h .place) .left; valid = omega (arith, q .1, h .valid); is = made ts i (row 8 t n x y z) (nth l n) (f x l) (Ok 0) (Ok 0) (h .place) 0 0 (row-of ts (h .place) .left) (h .is) refl refl (needs-true (is-both ts (h .place)) (row-of ts (h .place) .left) (q .0)); type = q .3 }, both-parts _ _ _ _ (m .1) .0))
+      (λ (m : (both σ (w .0) ≡ nat) × (both τ (u .0) ≡ H)). absurd (nat-both σ (w .0) (sym (m .0))))
       (ia refl l v (both σ (w .0)) (both τ (u .0)) (w .1) (u .1)))
       (λ ia ib ic it a b.
       let w = inv-snd a in
@@ -271,8 +255,8 @@ module _ (ts : List TypeRow) (some : 0 < length ts) (few : length ts ≤ 1024) (
       (λ (m : Typed ts (f x l) (both (w .0) σ) × (both (w .0) σ ≡ both (u .0) τ)).
       let h = m .0 in
       let q = both-is (h .place) (w .0) σ (h .valid) (h .type) in
-      inl (record { place = row-of ts (h .place) .right; valid = omega (arith, q .2, h .valid); is = made ts i (row 9 t n x y z) (nth l n) (f x l) (Ok 0) (Ok 0) (h .place) 0 0 (row-of ts (h .place) .right) (h .is) refl refl (needs-true (is-both ts (h .place)) (row-of ts (h .place) .right) (q .0)); type = q .4 }, both-same _ _ _ _ (m .1) .1))
-      (λ (m : (both (w .0) σ ≡ nat) × (both (u .0) τ ≡ H)). absurd (nat-apart (w .0) σ (sym (m .0))))
+      inl (record { place = row-of ts (h .place) .right; valid = omega (arith, q .2, h .valid); is = made ts i (row 9 t n x y z) (nth l n) (f x l) (Ok 0) (Ok 0) (h .place) 0 0 (row-of ts (h .place) .right) (h .is) refl refl (needs-true (is-both ts (h .place)) (row-of ts (h .place) .right) (q .0)); type = q .4 }, both-parts _ _ _ _ (m .1) .1))
+      (λ (m : (both (w .0) σ ≡ nat) × (both (u .0) τ ≡ H)). absurd (nat-both (w .0) σ (sym (m .0))))
       (ia refl l v (both (w .0) σ) (both (u .0) τ) (w .1) (u .1)))
       (λ ia ib ic it a b. two-nat 10 (ia refl) (ib refl) (λ p q. refl) (inv-calc a) (inv-calc b))
       (λ ia ib ic it a b. two-nat 11 (ia refl) (ib refl) (λ p q. refl) (inv-calc a) (inv-calc b))

@@ -22,7 +22,7 @@ zero-count zero j = refl
 zero-count (suc n) zero = refl
 zero-count (suc n) (suc j) = zero-count n j
 
-few-parts : (f : Form) → parts f ≤ 3
+pub few-parts : (f : Form) → parts f ≤ 3
 few-parts Succ = omega arith
 few-parts Ifz = omega arith
 few-parts Lam = omega arith
@@ -65,7 +65,7 @@ pub marked : (j m : ℕ) (r : TermRow) → m ≡ arity (r .kind) → times j (pa
 marked j m r e =
     ap (times j) (parts-are r ∙ ap (λ n. take n (r .a ∷ r .b ∷ r .c ∷ [])) (sym e)) ∙ marked-in j m (r .a) (r .b) (r .c) (omega (arith, arity-small (r .kind), e))
 
-one-small : (b : Bool) → _≤_ (cond b 1 0) 1
+pub one-small : (b : Bool) → _≤_ (cond b 1 0) 1
 one-small true = omega arith
 one-small false = omega arith
 

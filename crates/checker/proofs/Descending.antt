@@ -1,41 +1,37 @@
 -- Going down the rows of a rule, with the names that each stands under.
 use mathlib.Core.Path.{_≡_, refl, sym, ap, _∙_, subst}
-use mathlib.Core.List.{List, [], _∷_, _++_, map}
-use mathlib.Core.Bool.{Bool, true, false, cond}
+use mathlib.Core.List.{List, [], _∷_, _++_}
+use mathlib.Core.Bool.{true, false, cond}
 use mathlib.Core.Logic.{_⊎_, inl, inr, ⊎-elim}
 use Prim.Native.Nat.{ℕ, zero, suc, _+_, _-_, _<_, _≤_}
 use native.Mathlib.Omega.{arith}
 use lib.Dec.{eqb, ltb}
-use lib.ListN.{length, getD, take}
-use Rattle.std.specs.declared.option.Option.{Option}
+use lib.ListN.{length, getD}
 use Rattle.std.specs.declared.option.Option.the-variants.{Some, None}
 use Rattle.std.proofs.shelf.Lists.{getD-take, length-take-le}
-use Rattle.std.proofs.shelf.Tests.{leb-true, ltb-true, lt-ltb, eqb-true, eq-eqb, ne-eqb, cond-true, cond-false, cases-bool, false≢true}
-use Rattle.rows.specs.declared.tables.TypeRow.{TypeRow}
+use Rattle.std.proofs.shelf.Tests.{leb-true, ltb-true, lt-ltb, eqb-true, cond-true, cond-false, cases-bool, false≢true}
 use Rattle.rows.specs.declared.tables.TermRow.{TermRow}
-use Rattle.theory.specs.Syntax.{Ty, nat, to, both}
 use Rattle.theory.specs.Emit.{Tables}
-use Rattle.theory.specs.Stands.{types-from}
 use Rattle.theory.specs.Laws.{parts-of}
-use Rattle.checker.specs.RowTests.{no-row, arity, typed}
+use Rattle.checker.specs.RowTests.{arity, typed}
 use Rattle.checker.specs.Types.{bound, under, row-of, is-to, is-both, no-type}
 use Rattle.checker.specs.Contexts.{Context, domain, row-at, names-of, Under, rule, part}
 use Rattle.checker.proofs.ByKind.{kinds}
 use Rattle.checker.proofs.Counts.{arity-small, parts-are}
 use Rattle.checker.proofs.Placing.{a-below, b-below, c-below}
-use Rattle.checker.proofs.Sheets.{Good, Kept}
+use Rattle.checker.proofs.Sheets.{Kept}
 use Rattle.checker.proofs.TermLaws.{row}
-use Rattle.checker.proofs.TypeRows.{ty-at, nat-at, to-row, both-row, parts-before, cases}
+use Rattle.checker.proofs.TypeRows.{nat-to, to-both, ty-at, nat-at, to-row, both-row, parts-before, cases}
 use Rattle.checker.proofs.Sound.{hole, context}
 use Rattle.checker.proofs.Complete.{Valid, proper}
 use Rattle.checker.proofs.Typed.{good-at, type-placed}
 
 -- ---- the parts of a row
 
-count : (r : TermRow) → length (parts-of r) ≡ arity (r .kind)
+pub count : (r : TermRow) → length (parts-of r) ≡ arity (r .kind)
 count r = ap length (parts-are r) ∙ length-take-le (arity (r .kind)) (r .a ∷ r .b ∷ r .c ∷ []) (arity-small (r .kind))
 
-place : (r : TermRow) (i : ℕ) → i < arity (r .kind) → getD (parts-of r) i 0 ≡ getD (r .a ∷ r .b ∷ r .c ∷ []) i 0
+pub place : (r : TermRow) (i : ℕ) → i < arity (r .kind) → getD (parts-of r) i 0 ≡ getD (r .a ∷ r .b ∷ r .c ∷ []) i 0
 place r i h = ap (λ l. getD l i 0) (parts-are r) ∙ getD-take (arity (r .kind)) (r .a ∷ r .b ∷ r .c ∷ []) i 0 h
 
 -- ---- and their names
@@ -49,7 +45,7 @@ module _ (s : Tables) (k : Kept s) where
   lam-hole t h =
       let ts = s .0 in
       ⊎-elim
-      (λ (z : t ≡ 0). ap domain (ap (ty-at ts) z ∙ nat-at ts (k .types) (k .some-types)) ∙ none (not-to (λ e. to-nat _ _ (sym (to-row ts (k .types) t e) ∙ ap (ty-at ts) z ∙ nat-at ts (k .types) (k .some-types)))))
+      (λ (z : t ≡ 0). ap domain (ap (ty-at ts) z ∙ nat-at ts (k .types) (k .some-types)) ∙ none (not-to (λ e. nat-to _ _ (sym (sym (to-row ts (k .types) t e) ∙ ap (ty-at ts) z ∙ nat-at ts (k .types) (k .some-types))))))
       (⊎-elim
       (λ (e : is-to ts t ≡ true).
       let b = parts-before ts (k .types) t 0 (is-one e) in
@@ -65,12 +61,6 @@ module _ (s : Tables) (k : Kept s) where
 
       is-one : is-to (s .0) t ≡ true → row-of (s .0) t .kind ≡ 1
       is-one e = eqb-true (row-of (s .0) t .kind) 1 e
-
-      to-nat : (σ τ : Ty) → to σ τ ≡ nat → ⊥
-      to-nat σ τ e = let z : _≡_ {A = ℕ} 0 1 = cc in omega arith
-
-      to-both : (σ τ σ′ τ′ : Ty) → to σ τ ≡ both σ′ τ′ → ⊥
-      to-both σ τ σ′ τ′ e = let z : _≡_ {A = ℕ} 0 1 = cc in omega arith
 
   module _ (t n x y z : ℕ) (l : List ℕ) where
     first-names : (m : ℕ) → m ≤ 15 → (typed m ≡ true → t < length (s .0)) → names-of s (row m t n x y z) 0 ++ context (s .0) l ≡ context (s .0) (under (bound (s .0) (row m t n x y z)) l)

@@ -6,7 +6,7 @@ use mathlib.Core.List.{List, [], _∷_}
 use Prim.Native.Nat.{ℕ, min, suc, _-_, _<_, _≤_}
 use native.Mathlib.Omega.{arith}
 use lib.Dec.{ltb}
-use lib.ListN.{length, getD}
+use lib.ListN.{length}
 use Rattle.std.specs.declared.option.Option.{Option}
 use Rattle.std.specs.declared.option.Option.the-variants.{Some, None}
 use Rattle.std.proofs.shelf.Tests.{cond-true, cases-lt}
@@ -15,14 +15,11 @@ use Rattle.checker.specs.RowTests.{arity}
 use Rattle.checker.specs.Types.{bound, under}
 use Rattle.checker.specs.Contexts.{Context, row-at, Under, rule}
 use Rattle.checker.specs.Lowest.{first-of, lower}
-use Rattle.checker.proofs.Shallows.{some-none}
+use Rattle.checker.proofs.Shallows.{some-none, some-same}
 use Rattle.checker.proofs.Sheets.{Kept}
 use Rattle.checker.proofs.Sound.{context}
 use Rattle.checker.proofs.Complete.{Valid}
 use Rattle.checker.proofs.Descending.{Each, Reached, reach, Found, Some-part, down}
-
-pub some-same : {A : Type 0} {x y : A} → _≡_ {A = Option A} (Some x) (Some y) → x ≡ y
-some-same e = cc
 
 pub option-cases : {A : Type 0} (o : Option A) → (o ≡ None) ⊎ ((x : A) × (o ≡ Some x))
 option-cases None = inl refl

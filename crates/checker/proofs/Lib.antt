@@ -19,3 +19,4 @@ pub mod Typed
 pub mod Descending
 pub mod Faulty
 pub mod Meaning
+pub mod Once

@@ -1,49 +1,47 @@
 -- What the verdict means.
 use mathlib.Core.Path.{_≡_, refl, sym, ap, _∙_, subst}
-use mathlib.Core.List.{List, [], _∷_, map}
+use mathlib.Core.List.{List, [], _∷_}
 use mathlib.Core.Bool.{Bool, true, false, cond, not}
 use mathlib.Core.Logic.{_⊎_, inl, inr, ⊎-elim}
-use Prim.Native.Nat.{ℕ, zero, suc, _+_, _-_, _<_, _≤_}
+use Prim.Native.Nat.{ℕ, suc, _+_, _-_, _<_, _≤_}
 use native.Mathlib.Omega.{arith}
 use lib.Dec.{eqb, ltb}
-use lib.ListN.{length, getD}
+use lib.ListN.{length}
 use Rattle.std.specs.Options.{isSome}
 use Rattle.std.specs.declared.option.Option.{Option}
 use Rattle.std.specs.declared.option.Option.the-variants.{Some, None}
 use Rattle.std.specs.declared.result.Result.{Result}
 use Rattle.std.specs.declared.result.Result.the-variants.{Ok, Err}
 use Rattle.std.specs.shelf.Maps.{nth}
-use Rattle.std.proofs.shelf.Tests.{ltb-true, eqb-true, eq-eqb, eqb-false, cond-true, cond-false, cases-lt, cases-bool, not-true, false≢true}
+use Rattle.std.proofs.shelf.Tests.{ltb-true, eqb-true, eqb-false, false≢true}
 use Rattle.rows.specs.declared.tables.TermRow.{TermRow}
 use Rattle.rows.specs.declared.tables.TypeRow.{TypeRow}
-use Rattle.theory.specs.Syntax.{Ty, nat, Term}
+use Rattle.theory.specs.Syntax.{Ty, nat}
 use Rattle.theory.specs.Emit.{Tables}
 use Rattle.theory.specs.Stands.{term-at, rule-of}
 use Rattle.theory.specs.Laws.{Lawful}
 use Rattle.theory.specs.Typing.{_⊢_∶_}
-use Rattle.checker.specs.declared.refusal.Fault.{Fault}
-use Rattle.checker.specs.declared.refusal.Fault.the-variants.{TableSize, BadType, BadTerm, PartUse, TooDeep, Untyped, NotNat}
+use Rattle.checker.specs.declared.refusal.Fault.the-variants.{TableSize, BadType, BadTerm, PartUse, TooDeep, NotNat}
 use Rattle.checker.specs.declared.refusal.Refusal.{Refusal}
 use Rattle.checker.specs.Lowest.{first-of, lower, lowest}
-use Rattle.checker.specs.RowTests.{no-row, arity, good-type, good-term, used-once}
+use Rattle.checker.specs.RowTests.{arity, good-type, good-term}
 use Rattle.checker.specs.Depths.{opens, deep-at}
 use Rattle.checker.specs.Types.{Found, fault, type-in, settled, own-type, bound, under, no-type, type-at}
-use Rattle.checker.specs.Verdicts.{refusal, at-row, misfit, sizes, rows-verdict, ends, verdict, answer, passes}
+use Rattle.checker.specs.Verdicts.{refusal, at-row, sizes, rows-verdict, ends, verdict, answer, passes}
 use Rattle.checker.specs.Contexts.{Context, Fills, Has-type, row-at, Under}
 use Rattle.checker.specs.Theorems.{Rule, Shallow, Lowest-deep, Lowest-untyped, Other-type, Says, Means, Deep, Lasts, Verdict-means}
 use Rattle.checker.proofs.Deeps.{deep-step}
-use Rattle.checker.proofs.Shallows.{some-none, shallow, opens-bound}
+use Rattle.checker.proofs.Shallows.{some-none, some-same, shallow, opens-bound}
 use Rattle.checker.proofs.Sights.{length-under}
 use Rattle.checker.proofs.Sheets.{Kept, kept, kept-placed}
 use Rattle.checker.proofs.TableLaws.{lawful, keeps, kept-so}
 use Rattle.checker.proofs.TypeRows.{ty-at, nat-at, one-place}
 use Rattle.checker.proofs.Typings.{type-step}
-use Rattle.checker.proofs.Sound.{err-ok, at, hole, context}
-use Rattle.checker.proofs.Complete.{Outcome, Typed, solid, fill, H, nat-apart}
+use Rattle.checker.proofs.Sound.{err-ok, at, context}
+use Rattle.checker.proofs.Complete.{Typed, solid, fill, H}
 use Rattle.checker.proofs.Typed.{sound, complete}
-use Rattle.checker.proofs.Lifts.{Passing, passing, enough}
-use Rattle.checker.proofs.Faulty.{some-same, option-cases, found, every}
-use Rattle.checker.proofs.Descending.{Reached}
+use Rattle.checker.proofs.Lifts.{enough}
+use Rattle.checker.proofs.Faulty.{option-cases, found, every}
 
 length-context : (ts : List TypeRow) (l : List ℕ) → length (context ts l) ≡ length l
 length-context ts [] = refl
@@ -353,3 +351,18 @@ passes-rule s e = subst (Means s (length (s .1))) (ap answer (none-of (verdict s
 -- and so does an answer that is the verdict's
 pub told : (s : Tables) (sight : ℕ) (r : Result (Unit {0}) Refusal) → r ≡ answer (verdict s sight) → Means s sight r × Lasts s sight r
 told s sight r e = subst (λ o. Means s sight o × Lasts s sight o) (sym e) (verdict-means s sight)
+
+pub answered : (o : Option Refusal) (x : Unit {0}) → Ok x ≡ answer o → o ≡ None
+answered None x e = refl
+answered (Some f) x e = absurd (let z : _≡_ {A = ℕ} 0 1 = cc in omega arith)
+
+-- tables that pass do so with sight rows enough
+pub passes-so : (s : Tables) (sight : ℕ) → verdict s sight ≡ None → passes s ≡ true
+passes-so s sight e =
+    let r = subst (λ o. Means s sight (answer o)) e (verdict-means s sight .0) .0 in
+    let m = verdict-means s (length (s .1)) in
+    go (verdict s (length (s .1))) (m .0) r (m .1 .shallow (omega arith) (r .lawful))
+  where
+    go : (o : Option Refusal) → Means s (length (s .1)) (answer o) → Rule s → Shallow s (length (s .1)) → not (isSome o) ≡ true
+    go None m r h = refl
+    go (Some f) m r h = absurd (m .0 r h)

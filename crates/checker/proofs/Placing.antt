@@ -1,10 +1,10 @@
 -- The parts of a row are earlier rows.
-use mathlib.Core.Path.{_≡_, refl, sym, ap, _∙_}
+use mathlib.Core.Path.{_≡_, refl, sym}
 use mathlib.Core.Bool.{Bool, true, false, cond, _&&_}
-use Prim.Native.Nat.{ℕ, _+_, _<_, _≤_}
+use Prim.Native.Nat.{ℕ, _<_}
 use native.Mathlib.Omega.{arith}
 use lib.Dec.{ltb}
-use Rattle.std.proofs.shelf.Tests.{and-parts, ltb-true, lt-ltb}
+use Rattle.std.proofs.shelf.Tests.{and-parts, ltb-true}
 use Rattle.rows.specs.declared.tables.TermRow.{TermRow}
 use Rattle.checker.specs.RowTests.{arity, placed, parts-placed}
 

@@ -1,30 +1,31 @@
 -- What a term with no row under too many binders gives of its parts.
 use mathlib.Core.Path.{_≡_, refl, sym, ap, _∙_}
-use mathlib.Core.List.{List, [], _∷_}
+use mathlib.Core.List.{List}
 use mathlib.Core.Bool.{Bool, true, false, cond, _||_}
 use mathlib.Core.Logic.{⊎-elim}
 use Prim.Native.Nat.{ℕ, _+_, _<_, _≤_}
-use native.Mathlib.Nat.{add-zero}
 use native.Mathlib.Omega.{arith}
 use lib.Dec.{eqb, ltb}
 use lib.ListN.{length, getD}
 use Rattle.std.specs.Options.{isSome}
 use Rattle.std.specs.declared.option.Option.{Option}
 use Rattle.std.specs.declared.option.Option.the-variants.{Some, None}
-use Rattle.std.proofs.shelf.Tests.{cond-true, lt-ltb, ltb-false, cases-bool, true≢false}
+use Rattle.std.proofs.shelf.Tests.{cond-true, lt-ltb, ltb-false, cases-bool}
 use Rattle.rows.specs.declared.tables.TypeRow.{TypeRow}
 use Rattle.rows.specs.declared.tables.TermRow.{TermRow}
 use Rattle.checker.specs.Lowest.{first-of, lower}
 use Rattle.checker.specs.RowTests.{no-row, arity, Parts-placed}
 use Rattle.rows.specs.Forms.{kind}
-use Rattle.rows.specs.declared.forms.Form.the-variants.{Lam, Fix}
-use Rattle.checker.specs.Depths.{opens, deep-form, deep-at}
-use Rattle.checker.specs.Types.{bound, is-to, row-of, no-type}
+use Rattle.checker.specs.Depths.{opens, deep-at}
+use Rattle.checker.specs.Types.{bound}
 use Rattle.checker.proofs.Deeps.{deep-step}
 use Rattle.checker.proofs.Placing.{a-below, b-below, c-below}
 
 pub some-none : {A : Type 0} (x : A) → Some x ≡ None → ⊥
 some-none x e = let z : _≡_ {A = ℕ} 0 1 = cc in omega arith
+
+pub some-same : {A : Type 0} {x y : A} → _≡_ {A = Option A} (Some x) (Some y) → x ≡ y
+some-same e = cc
 
 pub first-none : {A : Type 0} (x y : Option A) → first-of x y ≡ None → (x ≡ None) × (y ≡ None)
 first-none None y e = (refl, e)

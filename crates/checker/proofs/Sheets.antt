@@ -1,7 +1,7 @@
 -- What tables give that keep the laws of rows.
-use mathlib.Core.Path.{_≡_, refl, sym, ap, _∙_}
-use mathlib.Core.List.{List, []}
-use mathlib.Core.Bool.{Bool, true, false, cond, _&&_, _||_}
+use mathlib.Core.Path.{_≡_, refl}
+use mathlib.Core.List.{List}
+use mathlib.Core.Bool.{true, false, _&&_}
 use Prim.Native.Nat.{ℕ, suc, _-_, _<_, _≤_}
 use native.Mathlib.Omega.{arith}
 use lib.Dec.{eqb, leb, ltb}
@@ -10,12 +10,10 @@ use Rattle.std.specs.declared.option.Option.{Option}
 use Rattle.std.specs.declared.option.Option.the-variants.{Some, None}
 use Rattle.std.proofs.shelf.Tests.{and-parts, or-parts, ltb-false, eqb-false}
 use Rattle.rows.specs.Limits.{top, most-types, most-terms}
-use Rattle.rows.specs.declared.tables.TypeRow.{TypeRow}
 use Rattle.rows.specs.declared.tables.TermRow.{TermRow}
 use Rattle.theory.specs.Emit.{Tables}
 use Rattle.checker.specs.declared.refusal.Fault.{Fault}
 use Rattle.checker.specs.declared.refusal.Fault.the-variants.{TableSize, BadType, BadTerm, PartUse}
-use Rattle.checker.specs.declared.refusal.Refusal.{Refusal}
 use Rattle.checker.specs.Lowest.{first-of, lowest}
 use Rattle.checker.specs.RowTests.{no-row, placed, typed, parts-placed, Parts-placed, good-type, good-term, used-once}
 use Rattle.checker.specs.Verdicts.{refusal, at-row, misfit, sizes, rows-verdict}

@@ -2,13 +2,12 @@
 use mathlib.Core.Path.{_≡_, refl, sym, ap, _∙_, subst}
 use mathlib.Core.List.{List, [], _∷_, map}
 use mathlib.Core.Bool.{Bool, true, false, cond, _&&_}
-use Prim.Native.Nat.{ℕ, zero, suc, _<_, _≤_}
+use Prim.Native.Nat.{ℕ, zero, suc, _≤_}
 use native.Mathlib.Omega.{arith}
 use lib.Dec.{eqb, ltb}
-use lib.ListN.{length, getD}
+use lib.ListN.{getD}
 use Rattle.std.specs.declared.option.Option.{Option}
 use Rattle.std.specs.declared.option.Option.the-variants.{Some, None}
-use Rattle.std.specs.declared.result.Result.{Result}
 use Rattle.std.specs.declared.result.Result.the-variants.{Ok, Err}
 use Rattle.std.specs.shelf.Maps.{nth}
 use Rattle.std.proofs.shelf.Tests.{and-parts, eqb-true, cond-true}
@@ -26,7 +25,7 @@ use Rattle.checker.specs.RowTests.{arity}
 use Rattle.checker.specs.Types.{Found, fault, type-in, settled, need, known, bound, under, own-type, row-of, is-to, is-both, no-type}
 use Rattle.checker.specs.Contexts.{Context, Fills, Has-type}
 use Rattle.checker.proofs.ByKind.{kinds}
-use Rattle.checker.proofs.Shallows.{some-none}
+use Rattle.checker.proofs.Shallows.{some-none, some-same}
 use Rattle.checker.proofs.TermLaws.{row}
 use Rattle.checker.proofs.TypeRows.{ty-at}
 
@@ -62,9 +61,6 @@ needed : (b : Bool) (q p : ℕ) → need b q ≡ Some p → (b ≡ true) × (q �
 needed true q p e = (refl, cc)
 needed false q p e = absurd (some-none p (sym e))
 
-some-same : (q p : ℕ) → _≡_ {A = Option ℕ} (Some q) (Some p) → q ≡ p
-some-same q p e = cc
-
 -- ---- names
 
 -- the context of the names in sight
@@ -89,7 +85,7 @@ sees ts (t ∷ names) (τ ∷ Θ) zero p h e = go (eqb t no-type) h e
   where
     go : (b : Bool) → Fills (cond b None (Some (ty-at ts t)) ∷ context ts names) (τ ∷ Θ) → cond b None (Some t) ≡ Some p → _≡_ {A = Option Ty} (Some τ) (Some (ty-at ts p))
     go true h′ e′ = absurd (some-none p (sym e′))
-    go false h′ e′ = ap (λ x. Some x) (sym (h′ .0) ∙ ap (ty-at ts) (some-same t p e′))
+    go false h′ e′ = ap (λ x. Some x) (sym (h′ .0) ∙ ap (ty-at ts) (some-same e′))
 sees ts (t ∷ names) (τ ∷ Θ) (suc d) p h e = sees ts names Θ d p (rest (eqb t no-type) h) e
   where
     rest : (b : Bool) → Fills (cond b None (Some (ty-at ts t)) ∷ context ts names) (τ ∷ Θ) → Fills (context ts names) Θ
@@ -138,7 +134,7 @@ module _ (ts : List TypeRow) (nat-is : ty-at ts 0 ≡ nat)
   pub sound-at : (k : ℕ) → k ≤ 15 → Sound-at k
   sound-at =
       kinds Sound-at
-      (λ ia ib ic io w Θ h. at (is-nat (some-same 0 p (w .rule-is))) (⊢num (io refl)))
+      (λ ia ib ic io w Θ h. at (is-nat (some-same (w .rule-is))) (⊢num (io refl)))
       (λ ia ib ic io w Θ h. ⊢name (sees ts names Θ n p h (w .rule-is)))
       (λ ia ib ic io w Θ h.
       let q = needed (eqb (w .px) 0) 0 p (w .rule-is) in
@@ -182,7 +178,7 @@ module _ (ts : List TypeRow) (nat-is : ty-at ts 0 ≡ nat)
       (λ ia ib ic io w Θ h.
       let q = needed (eqb (w .px) 0) 0 p (w .rule-is) in
       at (is-nat (q .1)) (⊢one of-get (at (nat-of (w .px) (q .0)) (ia refl names (w .px) (w .x-is) Θ h))))
-      (λ ia ib ic io w Θ h. at (ap (ty-at ts) (some-same t p (w .rule-is))) ⊢fail)
+      (λ ia ib ic io w Θ h. at (ap (ty-at ts) (some-same (w .rule-is))) ⊢fail)
       (λ ia ib ic io w Θ h.
       let q = needed (eqb (w .px) (w .py)) (w .px) p (w .rule-is) in
       at (ap (ty-at ts) (q .1)) (⊢catch (ia refl names (w .px) (w .x-is) Θ h) (at (ap (ty-at ts) (sym (eqb-true (w .px) (w .py) (q .0)))) (ib refl names (w .py) (w .y-is) Θ h))))

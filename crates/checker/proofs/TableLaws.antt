@@ -1,7 +1,7 @@
 -- The first law that is broken is none exactly where the tables keep their laws.
-use mathlib.Core.Path.{_≡_, refl, sym, ap, _∙_, subst}
-use mathlib.Core.Bool.{Bool, true, false, cond, _||_}
-use Prim.Native.Nat.{ℕ, suc, _-_, _<_, _≤_}
+use mathlib.Core.Path.{_≡_, ap, _∙_, subst}
+use mathlib.Core.Bool.{false, cond}
+use Prim.Native.Nat.{ℕ, _-_, _<_, _≤_}
 use native.Mathlib.Omega.{arith}
 use lib.Dec.{eqb, ltb}
 use lib.ListN.{length, getD}
@@ -9,14 +9,12 @@ use Rattle.std.specs.declared.option.Option.the-variants.{Some, None}
 use Rattle.std.proofs.shelf.Tests.{or-from, le-ltb, ne-eqb, eqb-true, eq-eqb}
 use Rattle.rows.specs.Limits.{most-types, most-terms}
 use Rattle.rows.specs.Rows.{nat-row}
-use Rattle.rows.specs.declared.tables.TypeRow.{TypeRow}
-use Rattle.rows.specs.declared.tables.TermRow.{TermRow}
 use Rattle.theory.specs.Emit.{Tables}
 use Rattle.theory.specs.Laws.{Compound, Row, Lawful, uses}
 use Rattle.checker.specs.declared.refusal.Fault.the-variants.{TableSize, BadType, BadTerm, PartUse}
 use Rattle.checker.specs.Lowest.{first-of, lowest}
 use Rattle.checker.specs.RowTests.{no-row, good-type, good-term, used-once}
-use Rattle.checker.specs.Verdicts.{refusal, at-row, misfit, sizes, rows-verdict}
+use Rattle.checker.specs.Verdicts.{refusal, at-row, misfit, rows-verdict}
 use Rattle.checker.proofs.Lows.{lowest-good, lowest-none}
 use Rattle.checker.proofs.Sheets.{good, Kept}
 use Rattle.checker.proofs.TypeLaws.{at-any, first-nat, compound-row, rows-apart, good-types}

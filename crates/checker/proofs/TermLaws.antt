@@ -1,11 +1,11 @@
 -- The test of term rows is the laws of term rows.
 use mathlib.Core.Path.{_≡_, refl, sym, ap, _∙_, subst}
 use mathlib.Core.List.{List, [], _∷_}
-use mathlib.Core.Bool.{Bool, true, false, cond, _&&_}
+use mathlib.Core.Bool.{Bool, true, false, _&&_}
 use Prim.Native.Nat.{ℕ, zero, suc, _<_, _≤_}
 use native.Mathlib.Omega.{arith}
 use lib.Dec.{eqb, leb, ltb}
-use lib.ListN.{length, getD, take}
+use lib.ListN.{length, getD}
 use Rattle.std.proofs.shelf.Tests.{and-parts, and-from, ltb-true, lt-ltb, leb-true, eqb-true}
 use Rattle.rows.specs.Limits.{top}
 use Rattle.rows.specs.declared.tables.TermRow.{TermRow}
@@ -14,8 +14,9 @@ use Rattle.rows.specs.declared.forms.Form.the-variants.{Succ, Ifz, Lam, Ap, Fix
 use Rattle.rows.specs.Forms.{kind, types, parts}
 use Rattle.rows.specs.Rows.{leaf-row, form-row}
 use Rattle.theory.specs.Laws.{Below, Row, leaf, form}
-use Rattle.checker.specs.RowTests.{no-row, arity, typed, placed, parts-placed, good-row}
+use Rattle.checker.specs.RowTests.{arity, typed, placed, parts-placed, good-row}
 use Rattle.checker.proofs.ByKind.{kinds}
+use Rattle.checker.proofs.Counts.{few-parts}
 use Rattle.checker.proofs.Sheets.{Good}
 
 abbrev pub row : ℕ → ℕ → ℕ → ℕ → ℕ → ℕ → TermRow
@@ -48,22 +49,21 @@ places-of m p x y z h e =
     go (suc (suc (suc zero))) h ex ey ez = record { places = x ∷ y ∷ z ∷ []; count = refl; below = (ltb-true x p ex, (ltb-true y p ey, (ltb-true z p ez, tt))); a = refl; b = refl; c = refl }
     go (suc (suc (suc (suc m)))) h ex ey ez = absurd (omega arith)
 
--- what a form takes
-counts : (f : Form) → (types f ≤ 1) × (parts f ≤ 3)
-counts Succ = (omega arith, omega arith)
-counts Ifz = (omega arith, omega arith)
-counts Lam = (omega arith, omega arith)
-counts Ap = (omega arith, omega arith)
-counts Fix = (omega arith, omega arith)
-counts Pair = (omega arith, omega arith)
-counts Fst = (omega arith, omega arith)
-counts Snd = (omega arith, omega arith)
-counts Add = (omega arith, omega arith)
-counts Sub = (omega arith, omega arith)
-counts Mul = (omega arith, omega arith)
-counts Get = (omega arith, omega arith)
-counts Fail = (omega arith, omega arith)
-counts Catch = (omega arith, omega arith)
+few-types : (f : Form) → types f ≤ 1
+few-types Succ = omega arith
+few-types Ifz = omega arith
+few-types Lam = omega arith
+few-types Ap = omega arith
+few-types Fix = omega arith
+few-types Pair = omega arith
+few-types Fst = omega arith
+few-types Snd = omega arith
+few-types Add = omega arith
+few-types Sub = omega arith
+few-types Mul = omega arith
+few-types Get = omega arith
+few-types Fail = omega arith
+few-types Catch = omega arith
 
 type-of : (m n t : ℕ) → m ≤ 1 → placed (ltb 0 m) t n ≡ true → (xs : List ℕ) × (length xs ≡ m) × Below n xs × (t ≡ getD xs 0 0)
 type-of zero n t h e = ([], refl, tt, eqb-true t 0 e)
@@ -73,8 +73,8 @@ type-of (suc (suc m)) n t h e = absurd (omega arith)
 module _ (n p t m x y z : ℕ) where
   form-law : (f : Form) → eqb m 0 ≡ true → placed (ltb 0 (types f)) t n ≡ true → three (parts f) p x y z ≡ true → Row n p (row (kind f) t m x y z)
   form-law f em et ep =
-      let ts = type-of (types f) n t (counts f .0) et in
-      let ps = places-of (parts f) p x y z (counts f .1) ep in
+      let ts = type-of (types f) n t (few-types f) et in
+      let ps = places-of (parts f) p x y z (few-parts f) ep in
       let zero-number = eqb-true m 0 em in
       form f (ts .0) (ps .places) (ts .1) (ps .count) (ts .2) (ps .below)
       (λ i. record { kind = kind f; ty = (ts .3) i; number = zero-number i; a = (ps .a) i; b = (ps .b) i; c = (ps .c) i })
@@ -162,12 +162,11 @@ tests n p r g =
 form-so : (n p : ℕ) (f : Form) (xs ys : List ℕ) → length xs ≡ types f → length ys ≡ parts f → Below n xs → Below p ys → Good n p (form-row f xs ys)
 form-so n p f xs ys lx ly bx by =
     let k = facts f in
-    let small = counts f in
     record {
       kind = k .small;
       number = ap (λ u. placed u 0 (suc top)) (k .numberless);
-      type = ap (λ u. placed u (getD xs 0 0) n) (k .types-are ∙ ap (ltb 0) (sym lx)) ∙ type-so n xs (omega (arith, lx, small .0)) bx;
-      parts = ap (λ m. three m p (getD ys 0 0) (getD ys 1 0) (getD ys 2 0)) (k .parts-are ∙ sym ly) ∙ three-so p ys (omega (arith, ly, small .1)) by;
+      type = ap (λ u. placed u (getD xs 0 0) n) (k .types-are ∙ ap (ltb 0) (sym lx)) ∙ type-so n xs (omega (arith, lx, few-types f)) bx;
+      parts = ap (λ m. three m p (getD ys 0 0) (getD ys 1 0) (getD ys 2 0)) (k .parts-are ∙ sym ly) ∙ three-so p ys (omega (arith, ly, few-parts f)) by;
     }
 
 leaf-so : (n p k m : ℕ) → k < 2 → m ≤ top → Good n p (leaf-row k m)

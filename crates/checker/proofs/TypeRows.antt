@@ -1,7 +1,7 @@
 -- What the rows of a type table stand for.
 use mathlib.Core.Path.{_≡_, refl, sym, ap, _∙_}
 use mathlib.Core.List.{List, [], _∷_, _++_}
-use mathlib.Core.Bool.{Bool, true, false, cond}
+use mathlib.Core.Bool.{true, cond}
 use mathlib.Core.Logic.{_⊎_, inl, inr, ⊎-elim}
 use Prim.Native.Nat.{ℕ, zero, suc, _<_, _≤_}
 use native.Mathlib.Omega.{arith}
@@ -9,7 +9,7 @@ use lib.Dec.{eqb}
 use lib.ListN.{length, getD, take}
 use Rattle.std.specs.declared.option.Option.the-variants.{None}
 use Rattle.std.proofs.shelf.Lists.{getD-take, getD-past}
-use Rattle.std.proofs.shelf.Tests.{eqb-true, eq-eqb, ne-eqb, cond-true, cond-false, cases-lt, cases-eq, cases-order}
+use Rattle.std.proofs.shelf.Tests.{eqb-true, eq-eqb, ne-eqb, cond-false, cases-lt, cases-eq, cases-order}
 use Rattle.rows.specs.declared.tables.TypeRow.{TypeRow}
 use Rattle.rows.specs.declared.forms.Shape.{Shape}
 use Rattle.rows.specs.declared.forms.Shape.the-variants.{To, Both}
@@ -32,19 +32,19 @@ types-are : (Ts : List Ty) (ts : List TypeRow) → types-from Ts ts ≡ rows-as 
 types-are Ts [] = refl
 types-are Ts (r ∷ rs) = types-are (Ts ++ type-of-row Ts r ∷ []) rs
 
-nat-to : (σ τ : Ty) → nat ≡ to σ τ → ⊥
+pub nat-to : (σ τ : Ty) → nat ≡ to σ τ → ⊥
 nat-to σ τ e = let z : _≡_ {A = ℕ} 0 1 = cc in omega arith
 
-nat-both : (σ τ : Ty) → nat ≡ both σ τ → ⊥
+pub nat-both : (σ τ : Ty) → nat ≡ both σ τ → ⊥
 nat-both σ τ e = let z : _≡_ {A = ℕ} 0 1 = cc in omega arith
 
-to-both : (σ τ σ′ τ′ : Ty) → to σ τ ≡ both σ′ τ′ → ⊥
+pub to-both : (σ τ σ′ τ′ : Ty) → to σ τ ≡ both σ′ τ′ → ⊥
 to-both σ τ σ′ τ′ e = let z : _≡_ {A = ℕ} 0 1 = cc in omega arith
 
-to-parts : (σ τ σ′ τ′ : Ty) → to σ τ ≡ to σ′ τ′ → (σ ≡ σ′) × (τ ≡ τ′)
+pub to-parts : (σ τ σ′ τ′ : Ty) → to σ τ ≡ to σ′ τ′ → (σ ≡ σ′) × (τ ≡ τ′)
 to-parts σ τ σ′ τ′ e = (cc, cc)
 
-both-parts : (σ τ σ′ τ′ : Ty) → both σ τ ≡ both σ′ τ′ → (σ ≡ σ′) × (τ ≡ τ′)
+pub both-parts : (σ τ σ′ τ′ : Ty) → both σ τ ≡ both σ′ τ′ → (σ ≡ σ′) × (τ ≡ τ′)
 both-parts σ τ σ′ τ′ e = (cc, cc)
 
 module _ (ts : List TypeRow) (good : lowest (good-type ts) (length ts) ≡ None) where

@@ -1,23 +1,23 @@
 -- The types of the rows of lawful tables are those of their terms.
 use mathlib.Core.Path.{_≡_, refl, sym, ap, _∙_, subst}
 use mathlib.Core.List.{List, [], _∷_, _++_}
-use mathlib.Core.Bool.{Bool, true, false, cond}
+use mathlib.Core.Bool.{true, cond}
 use Prim.Native.Nat.{ℕ, zero, suc, _-_, _<_, _≤_}
 use native.Mathlib.Omega.{arith}
-use lib.Dec.{eqb, leb, ltb}
+use lib.Dec.{eqb, ltb}
 use lib.ListN.{length, getD, take}
-use Rattle.std.specs.declared.result.Result.the-variants.{Ok, Err}
+use Rattle.std.specs.declared.result.Result.the-variants.{Ok}
 use Rattle.std.specs.shelf.Maps.{nth}
 use Rattle.std.proofs.shelf.Lists.{getD-take}
 use Rattle.std.proofs.shelf.Tests.{leb-true, ltb-true, cond-true}
 use Rattle.rows.specs.Limits.{top}
 use Rattle.rows.specs.declared.tables.TypeRow.{TypeRow}
 use Rattle.rows.specs.declared.tables.TermRow.{TermRow}
-use Rattle.theory.specs.Syntax.{Ty, nat, Op, add, sub, mul, calc, pair, succ, fst, snd, get, Term, num, name, one, two, ifz, lam, app, fix, fail, catch}
+use Rattle.theory.specs.Syntax.{Ty, nat, add, sub, mul, calc, pair, succ, fst, snd, get, Term, num, one, two, ifz, lam, app, fix, catch}
 use Rattle.theory.specs.Emit.{Tables}
 use Rattle.theory.specs.Stands.{types-from, term-of-row, terms-from, term-at}
 use Rattle.checker.specs.Descents.{rows-as}
-use Rattle.checker.specs.RowTests.{no-row, arity, typed, placed, good-term}
+use Rattle.checker.specs.RowTests.{no-row, arity, typed, good-term}
 use Rattle.checker.specs.Types.{bound, under, own-type, type-at}
 use Rattle.checker.specs.Contexts.{Has-type}
 use Rattle.checker.proofs.ByKind.{kinds}
@@ -28,7 +28,7 @@ use Rattle.checker.proofs.Sheets.{Good, good, Kept, kept-placed}
 use Rattle.checker.proofs.TermLaws.{row}
 use Rattle.checker.proofs.TypeRows.{ty-at, nat-at, to-row, both-row, one-place, to-place, both-place}
 use Rattle.checker.proofs.Typings.{type-step}
-use Rattle.checker.proofs.Sound.{Parts, inverted, context, Knows, term-form, sound-at}
+use Rattle.checker.proofs.Sound.{inverted, context, Knows, term-form, sound-at}
 use Rattle.theory.specs.Typing.{_⊢_∶_}
 use Rattle.checker.proofs.Complete.{Outcome, Finds, fill, H, complete-at}
 

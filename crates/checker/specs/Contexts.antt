@@ -11,7 +11,7 @@ use Rattle.rows.specs.declared.forms.Form.the-variants.{Succ, Ifz, Lam, Ap, Fix
 use Rattle.rows.specs.Forms.{form-at}
 use Rattle.theory.specs.Syntax.{Ty, nat, to, both, Term}
 use Rattle.theory.specs.Emit.{Tables}
-use Rattle.theory.specs.Stands.{types-from, term-at}
+use Rattle.theory.specs.Stands.{types-from}
 use Rattle.theory.specs.Laws.{parts-of}
 use Rattle.theory.specs.Typing.{_⊢_∶_}
 use Rattle.checker.specs.RowTests.{no-row}
@@ -66,3 +66,9 @@ Fills (Some σ ∷ Γ) (τ ∷ Θ) = (σ ≡ τ) × Fills Γ Θ
 -- a term has a type in a context where it has it whatever the names without a type are
 abbrev pub Has-type : Context → Term → Ty → Type 0
 Has-type Γ e τ = (Θ : List Ty) → Fills Γ Θ → Θ ⊢ e ∶ τ
+
+-- a row stands under one context, and no other
+pub record Placed (s : Tables) (p : ℕ) : Type 0 where
+  pub context : Context
+  pub under : Under s p context
+  pub only : (Γ : Context) → Under s p Γ → Γ ≡ context

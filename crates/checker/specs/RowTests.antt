@@ -6,7 +6,8 @@ use Prim.Native.Nat.{ℕ, suc, _<_}
 use lib.Dec.{eqb, leb, ltb}
 use lib.ListN.{length, getD}
 use Rattle.rows.specs.Limits.{top}
-use Rattle.rows.specs.Forms.{types, parts, form-at}
+use Rattle.rows.specs.declared.forms.Shape.the-variants.{To, Both}
+use Rattle.rows.specs.Forms.{types, parts, form-at, shape-kind}
 use Rattle.rows.specs.Rows.{nat-row, leaf-row, row-alike, row-place}
 use Rattle.rows.specs.declared.tables.TypeRow.{TypeRow}
 use Rattle.rows.specs.declared.tables.TermRow.{TermRow}
@@ -18,7 +19,7 @@ no-row = leaf-row 0 0
 
 -- a function or a pair of types at earlier rows
 abbrev pub compound : ℕ → TypeRow → Bool
-compound p r = (eqb (r .kind) 1 || eqb (r .kind) 2) && (ltb (r .left) p && ltb (r .right) p)
+compound p r = (eqb (r .kind) (shape-kind To) || eqb (r .kind) (shape-kind Both)) && (ltb (r .left) p && ltb (r .right) p)
 
 -- row 0 is nat; any later row is a function or a pair, and the first row that is equal to it is itself
 abbrev pub good-type : List TypeRow → ℕ → Bool

@@ -14,7 +14,7 @@ use Rattle.theory.specs.Typing.{_⊢_∶_}
 use Rattle.checker.specs.declared.refusal.Fault.{Fault}
 use Rattle.checker.specs.declared.refusal.Fault.the-variants.{TableSize, BadType, BadTerm, PartUse, TooDeep, Untyped, NotNat}
 use Rattle.checker.specs.declared.refusal.Refusal.{Refusal}
-use Rattle.checker.specs.Contexts.{Context, Under, Has-type}
+use Rattle.checker.specs.Contexts.{Context, Under, Has-type, Placed}
 use Rattle.checker.specs.Verdicts.{refusal, verdict, answer}
 
 -- the tables keep their laws, and their rule is closed and of type nat
@@ -80,3 +80,7 @@ pub record Lasts (s : Tables) (sight : ℕ) (r : Result (Unit {0}) Refusal) : Ty
 
 abbrev pub Verdict-means : Type 0
 Verdict-means = (s : Tables) (sight : ℕ) → Means s sight (answer (verdict s sight)) × Lasts s sight (answer (verdict s sight))
+
+-- every row of lawful tables has a context, so that what is said above of the rows under some context is said of all rows
+abbrev pub Rows-placed : Type 0
+Rows-placed = (s : Tables) → Lawful s → (p : ℕ) → p < length (s .1) → Placed s p

@@ -13,7 +13,8 @@ use Rattle.rows.specs.declared.tables.TypeRow.{TypeRow}
 use Rattle.rows.specs.declared.tables.TermRow.{TermRow}
 use Rattle.rows.specs.declared.forms.Form.{Form}
 use Rattle.rows.specs.declared.forms.Form.the-variants.{Succ, Ifz, Lam, Ap, Fix, Pair, Fst, Snd, Add, Sub, Mul, Get, Fail, Catch}
-use Rattle.rows.specs.Forms.{kind, form-at}
+use Rattle.rows.specs.declared.forms.Shape.the-variants.{To, Both}
+use Rattle.rows.specs.Forms.{kind, form-at, shape-kind}
 use Rattle.rows.specs.Rows.{nat-row}
 use Rattle.checker.specs.Lowest.{lower}
 use Rattle.checker.specs.RowTests.{arity}
@@ -27,10 +28,10 @@ abbrev pub row-of : List TypeRow → ℕ → TypeRow
 row-of ts p = getD ts p nat-row
 
 abbrev pub is-to : List TypeRow → ℕ → Bool
-is-to ts p = eqb (row-of ts p .kind) 1
+is-to ts p = eqb (row-of ts p .kind) (shape-kind To)
 
 abbrev pub is-both : List TypeRow → ℕ → Bool
-is-both ts p = eqb (row-of ts p .kind) 2
+is-both ts p = eqb (row-of ts p .kind) (shape-kind Both)
 
 -- the type of the name that the first part is under, if it is under one; a lam whose type is no function type gives its name none
 abbrev pub bound : List TypeRow → TermRow → Option ℕ

@@ -1,7 +1,7 @@
 // Rows under too many binders.
 ghost use mathlib.Core.Path.{_≡_};
 ghost use mathlib.Core.Bool.{cond};
-ghost use Prim.Native.Nat.{ℕ, _+_, _-_, _<_, _≤_};
+ghost use Prim.Native.Nat.{_+_, _-_, _<_, _≤_};
 ghost use lib.Dec.{ltb};
 ghost use lib.ListN.{length};
 ghost use Rattle.std.specs.declared.option.Option.the-variants.{Some, None};
@@ -56,7 +56,7 @@ fn own_after(parts: Option<u32>, limit: usize, p: u32, binders: u32) -> Option<u
 pub fn deepest(terms: &[TermRow], limit: usize, p: u32, binders: u32) -> Option<u32>
     requires placed { ⌜ «Parts-placed» (now terms) ⌝ }
     requires within { ⌜ p < length (now terms) ⌝ }
-    requires few { ⌜ binders + p ≤ 5000 ⌝ }
+    requires few { ⌜ binders + p < 2048 ⌝ }
     ensures { λ r. ⌜ r ≡ «deep-at» limit (now (terms .entry)) p binders ⌝ }
 {
     let r = terms[p as usize];

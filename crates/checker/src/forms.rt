@@ -1,10 +1,13 @@
 // What the rows of a kind have.
 ghost use mathlib.Core.Path.{_≡_};
-ghost use mathlib.Core.Bool.{true};
-ghost use Prim.Native.Nat.{_≤_};
 ghost use Rattle.rows.specs.Forms.{«form-at»};
 ghost use Rattle.checker.specs.RowTests.{arity, typed};
 use rows::Form;
+
+// The kinds of the type rows of functions and of pairs.
+pub const TO: u8 = 1;
+
+pub const BOTH: u8 = 2;
 
 // The form of a kind from 2 to 15.
 pub fn form_of(kind: u8) -> Form

@@ -7,6 +7,7 @@ mod refusal;
 mod rules;
 mod sheet;
 mod theorems;
+mod type_rules;
 mod types;
 mod verdict;
 
@@ -18,4 +19,5 @@ pub use refusal::RefusalDebug;
 pub use refusal::RefusalPartialEq;
 pub use sheet::Passed;
 pub use sheet::check::check;
+pub use theorems::rows_placed;
 pub use theorems::verdict_means;

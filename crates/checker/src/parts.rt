@@ -15,7 +15,7 @@ use rows::TermRow;
 // One more at place p, where it is used.
 fn mark(counts: &mut [u32], used: bool, p: u32)
     requires within { ⌜ (used ≡ true → p < length (now counts)) ⌝ }
-    requires small { ⌜ ((k : ℕ) → getD (now counts) k 0 < 100000) ⌝ }
+    requires small { ⌜ ((k : ℕ) → getD (now counts) k 0 < 4294967295) ⌝ }
     ensures counted { λ _. ⌜ ((j : ℕ) → getD (now (counts .exit)) j 0 ≡ getD (now (counts .entry)) j 0 + cond (used && eqb j p) 1 0) ⌝ }
 {
     if used {
@@ -28,7 +28,7 @@ fn mark(counts: &mut [u32], used: bool, p: u32)
 fn mark_row(counts: &mut [u32], i: u32, r: TermRow)
     requires placed { ⌜ «parts-placed» i r ≡ true ⌝ }
     requires within { ⌜ i ≤ length (now counts) ⌝ }
-    requires small { ⌜ ((k : ℕ) → getD (now counts) k 0 < 90000) ⌝ }
+    requires small { ⌜ ((k : ℕ) → getD (now counts) k 0 < 4294967293) ⌝ }
     ensures counted { λ _. ⌜ ((j : ℕ) → getD (now (counts .exit)) j 0 ≡ getD (now (counts .entry)) j 0 + times j («parts-of» r)) ⌝ }
 {
     let parts = arity_of(r.kind);

@@ -2,10 +2,12 @@
 ghost use mathlib.Core.Path.{_≡_};
 ghost use mathlib.Core.Bool.{_&&_};
 ghost use Prim.Native.Nat.{_<_, _≤_};
-ghost use lib.ListN.{length, getD};
+ghost use lib.ListN.{length};
 ghost use Rattle.rows.specs.Rows.{«row-alike», «row-place»};
 ghost use Rattle.checker.specs.Lowest.{lowest};
 ghost use Rattle.checker.specs.RowTests.{compound, «good-type», placed, «parts-placed», «good-row», «good-term»};
+use crate::forms::BOTH;
+use crate::forms::TO;
 use crate::forms::arity_of;
 use crate::forms::has_type;
 use rows::TOP;
@@ -34,7 +36,7 @@ fn place_of(row: TypeRow, types: &[TypeRow]) -> usize
 fn is_compound(p: u32, r: TypeRow) -> bool
     ensures { λ b. ⌜ b ≡ compound p r ⌝ }
 {
-    (r.kind == 1 || r.kind == 2) && r.left < p && r.right < p
+    (r.kind == TO || r.kind == BOTH) && r.left < p && r.right < p
 }
 
 // Whether row p keeps the laws of type rows.

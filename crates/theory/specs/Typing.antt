@@ -8,19 +8,19 @@ use Rattle.rows.specs.Limits.{top}
 use Rattle.theory.specs.Syntax.{Ty, nat, to, both, One, succ, fst, snd, get, Op, Two, pair, calc}
 use Rattle.theory.specs.Syntax.{Term, num, name, one, two, ifz, lam, app, fix, fail, catch}
 
--- a form with one part makes a τ of a σ.
+-- a form with one part makes a τ of a σ
 pub data Makes₁ : One → Ty → Ty → Type 0 where
   of-succ : Makes₁ succ nat nat
   of-get : Makes₁ get nat nat
   of-fst : {σ τ : Ty} → Makes₁ fst (both σ τ) σ
   of-snd : {σ τ : Ty} → Makes₁ snd (both σ τ) τ
 
--- a form with two parts makes an υ of a σ and a τ.
+-- a form with two parts makes an υ of a σ and a τ
 pub data Makes₂ : Two → Ty → Ty → Ty → Type 0 where
   of-pair : {σ τ : Ty} → Makes₂ (pair (both σ τ)) σ τ (both σ τ)
   of-calc : {o : Op} → Makes₂ (calc o) nat nat nat
 
--- Γ ⊢ e ∶ τ: with names of the types Γ in sight, nearest first, e has type τ.
+-- Γ ⊢ e ∶ τ: with names of the types Γ in sight, nearest first, e has type τ
 infix 30 _⊢_∶_
 pub data _⊢_∶_ : List Ty → Term → Ty → Type 0 where
   ⊢num : {Γ : List Ty} {n : ℕ} → n ≤ top → Γ ⊢ num n ∶ nat

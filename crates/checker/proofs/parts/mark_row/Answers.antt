@@ -1,6 +1,4 @@
-use Prim.Native.Nat.{_+_}
 use native.Mathlib.Omega.{arith}
-use lib.ListN.{getD}
 use Rattle.checker.proofs.Counts.{marked}
 use Rattle.checker.proofs.parts.mark_row.Needs as need
 

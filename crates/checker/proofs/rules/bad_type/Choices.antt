@@ -1,5 +1,4 @@
 use mathlib.Core.Path.{_≡_}
-use lib.ListN.{length}
 use Rattle.std.specs.declared.option.Option.the-variants.{None}
 use Rattle.checker.specs.Lowest.{lowest}
 use Rattle.checker.specs.RowTests.{good-type}

@@ -1,15 +1,15 @@
-use mathlib.Core.Path.{_≡_, refl, sym, ap, _∙_}
+use mathlib.Core.Path.{_≡_, sym, ap, _∙_}
 use mathlib.Core.List.{_∷_}
 use mathlib.Core.Bool.{cond}
-use Prim.Native.Nat.{ℕ, _+_, _<_}
+use Prim.Native.Nat.{ℕ}
 use native.Mathlib.Omega.{arith}
 use lib.Dec.{ltb}
 use lib.ListN.{length, getD}
-use Rattle.std.specs.declared.option.Option.the-variants.{Some, None}
-use Rattle.std.specs.declared.result.Result.the-variants.{Ok, Err}
+use Rattle.std.specs.declared.option.Option.the-variants.{Some}
+use Rattle.std.specs.declared.result.Result.the-variants.{Ok}
 use Rattle.rows.specs.Views.{view, room}
 use Rattle.checker.specs.RowTests.{no-row, arity}
-use Rattle.checker.specs.Types.{Found, bound, under, type-at}
+use Rattle.checker.specs.Types.{bound, under, type-at}
 use Rattle.checker.proofs.Deeps.{some-part, no-part}
 use Rattle.checker.proofs.Shallows.{shallow-b, room-a, room-c, moved}
 use Rattle.checker.proofs.Sights.{Same, same-refl, same-trans, length-under, around}

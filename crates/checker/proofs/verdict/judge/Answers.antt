@@ -1,8 +1,8 @@
-use mathlib.Core.Path.{sym, ap, _∙_}
+use mathlib.Core.Path.{sym, ap}
 use native.Mathlib.Omega.{arith}
 use lib.ListN.{length}
 use Rattle.checker.proofs.Shallows.{moved}
-use Rattle.checker.proofs.Lifts.{answered}
+use Rattle.checker.proofs.Meaning.{answered}
 use Rattle.checker.proofs.Sheets.{kept, kept-placed}
 use Rattle.checker.proofs.verdict.judge.Needs as need
 

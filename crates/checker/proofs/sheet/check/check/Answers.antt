@@ -4,8 +4,7 @@ use lib.ListN.{length}
 use Rattle.std.specs.declared.result.Result.the-variants.{Ok}
 use Rattle.theory.specs.Emit.{Tables}
 use Rattle.checker.specs.Verdicts.{verdict, answer}
-use Rattle.checker.proofs.Lifts.{answered, passes-so}
-use Rattle.checker.proofs.Meaning.{told}
+use Rattle.checker.proofs.Meaning.{told, answered, passes-so}
 use Rattle.checker.proofs.sheet.check.check.Needs as need
 
 pub ghost-place : need.ghost-place
