@@ -13,7 +13,7 @@ use rows::Form;
 use rows::TermRow;
 
 // The lower of two places.
-pub fn lower_of(x: Option<u32>, y: Option<u32>) -> Option<u32>
+pub(crate) fn lower_of(x: Option<u32>, y: Option<u32>) -> Option<u32>
     ensures { λ r. ⌜ r ≡ lower x y ⌝ }
 {
     match (x, y) {
@@ -53,7 +53,7 @@ fn own_after(parts: Option<u32>, limit: usize, p: u32, binders: u32) -> Option<u
 
 // The lowest row of the term at row p, which is under so many binders, that is under more than the limit. It visits each
 // row of the term once, since each is a part once.
-pub fn deepest(terms: &[TermRow], limit: usize, p: u32, binders: u32) -> Option<u32>
+pub(crate) fn deepest(terms: &[TermRow], limit: usize, p: u32, binders: u32) -> Option<u32>
     requires placed { ⌜ «Parts-placed» (now terms) ⌝ }
     requires within { ⌜ p < length (now terms) ⌝ }
     requires few { ⌜ binders + p < 2048 ⌝ }

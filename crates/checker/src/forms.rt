@@ -10,7 +10,7 @@ pub const TO: u8 = 1;
 pub const BOTH: u8 = 2;
 
 // The form of a kind from 2 to 15.
-pub fn form_of(kind: u8) -> Form
+pub(crate) fn form_of(kind: u8) -> Form
     ensures { λ r. ⌜ r ≡ «form-at» kind ⌝ }
 {
     match kind {
@@ -32,14 +32,14 @@ pub fn form_of(kind: u8) -> Form
 }
 
 // How many parts rows of a kind have.
-pub fn arity_of(kind: u8) -> u8
+pub(crate) fn arity_of(kind: u8) -> u8
     ensures { λ r. ⌜ r ≡ arity kind ⌝ }
 {
     if kind < 2 { 0 } else { form_of(kind).parts() }
 }
 
 // Whether they have a type.
-pub fn has_type(kind: u8) -> bool
+pub(crate) fn has_type(kind: u8) -> bool
     ensures { λ r. ⌜ r ≡ typed kind ⌝ }
 {
     if kind < 2 {

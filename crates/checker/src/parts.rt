@@ -38,7 +38,7 @@ fn mark_row(counts: &mut [u32], i: u32, r: TermRow)
 }
 
 // The lowest row but the last that is not a part exactly once.
-pub fn bad_part(terms: &[TermRow]) -> Option<u32>
+pub(crate) fn bad_part(terms: &[TermRow]) -> Option<u32>
     requires some { ⌜ 0 < length (now terms) ⌝ }
     requires few { ⌜ length (now terms) ≤ 2048 ⌝ }
     requires placed { ⌜ «Parts-placed» (now terms) ⌝ }

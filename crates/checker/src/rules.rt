@@ -53,7 +53,7 @@ fn is_good_type(types: &[TypeRow], p: usize) -> bool
 }
 
 // The lowest type row that breaks the laws.
-pub fn bad_type(types: &[TypeRow]) -> Option<u32>
+pub(crate) fn bad_type(types: &[TypeRow]) -> Option<u32>
     requires { ⌜ length (now types) ≤ 1024 ⌝ }
     ensures { λ r. ⌜ r ≡ lowest («good-type» (now (types .entry))) (length (now (types .entry))) ⌝ }
 {
@@ -89,7 +89,7 @@ fn is_good_row(n: u32, p: u32, r: TermRow) -> bool
 }
 
 // The lowest term row that breaks the laws, beside n type rows.
-pub fn bad_term(n: u32, terms: &[TermRow]) -> Option<u32>
+pub(crate) fn bad_term(n: u32, terms: &[TermRow]) -> Option<u32>
     requires { ⌜ length (now terms) ≤ 2048 ⌝ }
     ensures { λ r. ⌜ r ≡ lowest («good-term» n (now (terms .entry))) (length (now (terms .entry))) ⌝ }
 {

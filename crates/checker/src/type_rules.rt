@@ -28,7 +28,7 @@ fn needed(holds: bool, t: u32) -> Option<u32>
 }
 
 // The type of the name that the first part is under, if it is under one.
-pub fn name_bound(types: &[TypeRow], r: TermRow) -> Option<u32>
+pub(crate) fn name_bound(types: &[TypeRow], r: TermRow) -> Option<u32>
     ensures { λ o. ⌜ o ≡ «bound-of» (now (types .entry)) r ⌝ }
 {
     if r.kind == Form::Lam.kind() {
@@ -86,7 +86,7 @@ fn known_type(name: Option<u32>) -> Option<u32>
 }
 
 // The type of a row: nat of a number, a name's, or by the form's rule.
-pub fn type_of_row(
+pub(crate) fn type_of_row(
     types: &[TypeRow],
     r: TermRow,
     name: Option<u32>,

@@ -88,7 +88,7 @@ fn leave(names: &mut Stack<u32>, bound: Option<u32>)
 
 // The type of the term at row p with these names in sight, or its lowest row without one. It visits each row of the term
 // once, since each is a part once.
-pub fn type_of(
+pub(crate) fn type_of(
     types: &[TypeRow],
     terms: &[TermRow],
     names: &mut Stack<u32>,

@@ -49,7 +49,7 @@ fn check_rows(types: &[TypeRow], terms: &[TermRow]) -> Result<(), Refusal>
 }
 
 // The first fault of two tables, and its lowest row, with the sight rows for the types of the names in sight.
-pub fn judge(types: &[TypeRow], terms: &[TermRow], sight: &mut [u32]) -> Result<(), Refusal>
+pub(crate) fn judge(types: &[TypeRow], terms: &[TermRow], sight: &mut [u32]) -> Result<(), Refusal>
     ensures { λ r. ⌜ r ≡ answer (verdict (now (types .entry), now (terms .entry)) (length (now (sight .entry)))) ⌝ }
 {
     check_rows(types, terms)?;

@@ -16,7 +16,7 @@ pub const TYPES: usize = 1_024;
 pub const TERMS: usize = 2_048;
 
 // A row of a kind with a type and parts.
-pub fn form(kind: u8, ty: u32, a: u32, b: u32, c: u32) -> TermRow {
+pub(crate) fn form(kind: u8, ty: u32, a: u32, b: u32, c: u32) -> TermRow {
     TermRow {
         kind,
         ty,
@@ -28,7 +28,7 @@ pub fn form(kind: u8, ty: u32, a: u32, b: u32, c: u32) -> TermRow {
 }
 
 // A number, of kind 0, or a name, of kind 1.
-pub fn leaf(kind: u8, number: u32) -> TermRow {
+pub(crate) fn leaf(kind: u8, number: u32) -> TermRow {
     TermRow {
         kind,
         ty: 0,
@@ -40,12 +40,12 @@ pub fn leaf(kind: u8, number: u32) -> TermRow {
 }
 
 // A function type, of kind 1, or a pair's, of kind 2.
-pub fn shape(kind: u8, left: u32, right: u32) -> TypeRow {
+pub(crate) fn shape(kind: u8, left: u32, right: u32) -> TypeRow {
     TypeRow { kind, left, right }
 }
 
 // As many types as there may be, each a function to the one before it.
-pub fn chain_of_types() -> [TypeRow; TYPES] {
+pub(crate) fn chain_of_types() -> [TypeRow; TYPES] {
     let mut types = [TypeRow::ZERO; TYPES];
     for p in 1..TYPES {
         types[p] = shape(1, 0, p as u32 - 1);
@@ -54,7 +54,7 @@ pub fn chain_of_types() -> [TypeRow; TYPES] {
 }
 
 // As many terms as there may be: a leaf, and then forms of a kind, each around the one before it.
-pub fn chain_of_terms(first: TermRow, kind: u8) -> [TermRow; TERMS] {
+pub(crate) fn chain_of_terms(first: TermRow, kind: u8) -> [TermRow; TERMS] {
     let mut terms = [first; TERMS];
     for p in 1..TERMS {
         terms[p] = form(kind, 0, p as u32 - 1, 0, 0);
@@ -63,7 +63,11 @@ pub fn chain_of_terms(first: TermRow, kind: u8) -> [TermRow; TERMS] {
 }
 
 // What the checker says of two tables, with so many sight rows, at most as many as there may be terms.
-pub fn judged<'t>(types: &'t [TypeRow], terms: &'t [TermRow], sight: usize) -> Result<(), Refusal> {
+pub(crate) fn judged<'t>(
+    types: &'t [TypeRow],
+    terms: &'t [TermRow],
+    sight: usize,
+) -> Result<(), Refusal> {
     let mut rows = [7u32; TERMS];
     let n = sight.min(TERMS);
     let mut place = Passed::builtin();
@@ -71,7 +75,7 @@ pub fn judged<'t>(types: &'t [TypeRow], terms: &'t [TermRow], sight: usize) -> R
 }
 
 // What it says of the tables that a text is read into. A text that is not read is no sheet at all.
-pub fn judged_text(rule: &[u8], sight: usize) -> Result<(), Refusal> {
+pub(crate) fn judged_text(rule: &[u8], sight: usize) -> Result<(), Refusal> {
     let mut types = [TypeRow::ZERO; TYPES];
     let mut terms = [TermRow::ZERO; TERMS];
     let mut opens = [OpenForm::TermWord; 64];
@@ -89,7 +93,7 @@ pub fn judged_text(rule: &[u8], sight: usize) -> Result<(), Refusal> {
 }
 
 // How many rows the place holds after a check with a sight row: those of the sheet that passed last.
-pub fn rows_held<'t>(
+pub(crate) fn rows_held<'t>(
     types: &'t [TypeRow],
     terms: &'t [TermRow],
     then: &'t [TermRow],

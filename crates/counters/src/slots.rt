@@ -4,7 +4,7 @@ ghost use Prim.Native.Nat.{_≤_};
 ghost use lib.ListN.{length, take};
 
 // Copies items into the first slots.
-pub fn put<T: Copy>(slots: &mut [T], items: &[T])
+pub(crate) fn put<T: Copy>(slots: &mut [T], items: &[T])
     requires { ⌜ length (now items) ≤ length (now slots) ⌝ }
     ensures { λ _. ⌜ take (length (now (items .entry))) (now (slots .exit)) ≡ now (items .entry) ⌝ }
 {

@@ -33,7 +33,12 @@ const TERM: TermRow = TermRow {
 };
 
 // What a text is read as with so many rows handed over, at most as many as there are here.
-pub fn read_with(rule: &[u8], types: usize, terms: usize, opens: usize) -> Result<Counts, Refusal> {
+pub(crate) fn read_with(
+    rule: &[u8],
+    types: usize,
+    terms: usize,
+    opens: usize,
+) -> Result<Counts, Refusal> {
     let mut type_rows = [TYPE; TYPES];
     let mut term_rows = [TERM; TERMS];
     let mut open_rows = [OpenForm::TermWord; OPENS];
@@ -49,12 +54,12 @@ pub fn read_with(rule: &[u8], types: usize, terms: usize, opens: usize) -> Resul
 }
 
 // What a text is read as with all of them.
-pub fn read_all(rule: &[u8]) -> Result<Counts, Refusal> {
+pub(crate) fn read_all(rule: &[u8]) -> Result<Counts, Refusal> {
     read_with(rule, TYPES, TERMS, OPENS)
 }
 
 // How many rows of both tables are not zero after a text is read.
-pub fn rows_left(rule: &[u8]) -> (usize, usize) {
+pub(crate) fn rows_left(rule: &[u8]) -> (usize, usize) {
     let mut types = [TYPE; TYPES];
     let mut terms = [TERM; TERMS];
     let mut opens = [OpenForm::TermWord; OPENS];
@@ -84,7 +89,7 @@ fn term_rows_left(terms: &[TermRow]) -> usize {
 }
 
 // A text of `long` bytes: spaces, with `front` at its front and `last` for its last byte.
-pub fn spaced(front: &[u8], last: u8, long: usize) -> [u8; 16_385] {
+pub(crate) fn spaced(front: &[u8], last: u8, long: usize) -> [u8; 16_385] {
     let mut bytes = [b' '; 16_385];
     for (b, f) in bytes.iter_mut().zip(front.iter()) {
         *b = *f;
