@@ -1,4 +1,4 @@
--- More sight rows.
+-- As many sight rows as term rows are enough.
 use mathlib.Core.Path.{_≡_, refl, ap, _∙_}
 use mathlib.Core.List.{List}
 use mathlib.Core.Bool.{Bool, true, false, cond}

@@ -98,9 +98,6 @@ opens-none ts r e =
     ⊎-elim (λ (g : eqb (r .kind) 6 ≡ true). absurd (some-none _ (rw (f, g) at e))) (λ (g : eqb (r .kind) 6 ≡ false). rw (f, g) refl) (cases-bool (eqb (r .kind) 6)))
     (cases-bool (eqb (r .kind) 4))
 
-pub deeper : (limit : ℕ) (es : List TermRow) (p d : ℕ) (b v : Bool) → b ≡ v → deep-at limit es p (d + cond b 1 0) ≡ None → deep-at limit es p (d + cond v 1 0) ≡ None
-deeper limit es p d b v e h = ap (λ x. deep-at limit es p (d + cond x 1 0)) (sym e) ∙ h
-
 pub opens-bound : (ts : List TypeRow) (r : TermRow) (o : Option ℕ) → o ≡ bound ts r → _≡_ {A = ℕ} (cond (isSome o) 1 0) (cond (opens (r .kind)) 1 0)
 opens-bound ts r (Some t) e = sym (ap (λ b. cond b 1 0) (opens-some ts r t (sym e)))
 opens-bound ts r None e = sym (ap (λ b. cond b 1 0) (opens-none ts r (sym e)))

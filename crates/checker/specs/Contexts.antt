@@ -43,6 +43,7 @@ names Get T = []
 names Fail T = []
 names Catch T = []
 
+-- the term row at a place
 abbrev pub row-at : Tables → ℕ → TermRow
 row-at s p = getD (s .1) p no-row
 

@@ -26,8 +26,10 @@ deep-form limit part p r d =
     (cond (ltb 2 (arity (r .kind))) (part (r .c) (d + 1)) None)))
     (cond (ltb limit d) (Some p) None)
 
+-- the same by what was said of the rows before it, in a table
 abbrev pub deep-row : ℕ → List (ℕ → Option ℕ) → TermRow → ℕ → Option ℕ
 deep-row limit done r = deep-form limit (λ p. getD done p (λ _. None)) (length done) r
 
+-- the lowest row of the term at row p that is under more than limit, where row p is under so many
 abbrev pub deep-at : ℕ → List TermRow → ℕ → ℕ → Option ℕ
 deep-at limit es p = getD (rows-as (deep-row limit) [] es) p (λ _. None)

@@ -46,6 +46,7 @@ parts-placed p r =
     && (placed (ltb 1 (arity (r .kind))) (r .b) p
     && placed (ltb 2 (arity (r .kind))) (r .c) p)
 
+-- and so are those of every row
 abbrev pub Parts-placed : List TermRow → Type 0
 Parts-placed es = (p : ℕ) → p < length es → parts-placed p (getD es p no-row) ≡ true
 
@@ -57,6 +58,7 @@ good-row n p r =
     && (placed (typed (r .kind)) (r .ty) n
     && parts-placed p r))
 
+-- the same of row p of a table
 abbrev pub good-term : ℕ → List TermRow → ℕ → Bool
 good-term n es p = good-row n p (getD es p no-row)
 

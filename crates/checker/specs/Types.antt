@@ -24,12 +24,15 @@ use Rattle.checker.specs.Descents.{rows-as}
 abbrev pub no-type : ℕ
 no-type = 4294967295
 
+-- the type row at a place
 abbrev pub row-of : List TypeRow → ℕ → TypeRow
 row-of ts p = getD ts p nat-row
 
+-- whether the type at a place is a function
 abbrev pub is-to : List TypeRow → ℕ → Bool
 is-to ts p = eqb (row-of ts p .kind) (shape-kind To)
 
+-- whether it is a pair
 abbrev pub is-both : List TypeRow → ℕ → Bool
 is-both ts p = eqb (row-of ts p .kind) (shape-kind Both)
 
@@ -39,6 +42,7 @@ bound ts r =
     cond (eqb (r .kind) (kind Lam)) (Some (cond (is-to ts (r .ty)) (row-of ts (r .ty) .left) no-type))
     (cond (eqb (r .kind) (kind Fix)) (Some (r .ty)) None)
 
+-- the names in sight with one more, where one is bound
 abbrev pub under : Option ℕ → List ℕ → List ℕ
 under None names = names
 under (Some t) names = t ∷ names
@@ -80,10 +84,12 @@ own-type ts r name x y z =
 abbrev pub Found : Type 0
 Found = Result ℕ ℕ
 
+-- the row without a type, if there is one
 abbrev pub fault : Found → Option ℕ
 fault (Ok t) = None
 fault (Err p) = Some p
 
+-- the type, which is of no account where there is none
 abbrev pub type-in : Found → ℕ
 type-in (Ok t) = t
 type-in (Err p) = 0
@@ -94,6 +100,7 @@ settled p (Some q) t = Err q
 settled p None (Some t) = Ok t
 settled p None None = Err p
 
+-- the type of row p by what was found of its parts
 abbrev pub joined : List TypeRow → ℕ → TermRow → Option ℕ → Found → Found → Found → Found
 joined ts p r name x y z = settled p (lower (fault x) (lower (fault y) (fault z))) (own-type ts r name (type-in x) (type-in y) (type-in z))
 
@@ -105,8 +112,10 @@ type-form ts part p r names =
     (cond (ltb 1 (arity (r .kind))) (part (r .b) names) (Ok 0))
     (cond (ltb 2 (arity (r .kind))) (part (r .c) (0 ∷ names)) (Ok 0))
 
+-- the same by what was found of the rows before it, in a table
 abbrev pub type-row : List TypeRow → List (List ℕ → Found) → TermRow → List ℕ → Found
 type-row ts done r = type-form ts (λ p. getD done p (λ _. Ok 0)) (length done) r
 
+-- the type of the term at row p with these names in sight, or its lowest row without one
 abbrev pub type-at : List TypeRow → List TermRow → ℕ → List ℕ → Found
 type-at ts es p = getD (rows-as (type-row ts) [] es) p (λ _. Ok 0)

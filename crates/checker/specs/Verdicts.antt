@@ -19,6 +19,7 @@ use Rattle.checker.specs.RowTests.{good-type, good-term, used-once}
 use Rattle.checker.specs.Depths.{deep-at}
 use Rattle.checker.specs.Types.{Found, type-at}
 
+-- a fault at a row
 abbrev pub refusal : Fault → ℕ → Refusal
 refusal f p = record { fault = f; row = p }
 
@@ -31,6 +32,7 @@ at-row f (Some p) = Some (refusal f p)
 abbrev pub misfit : ℕ → ℕ → Bool
 misfit most n = eqb n 0 || ltb most n
 
+-- the fault of a table with no row or too many
 abbrev pub sizes : Tables → Option Refusal
 sizes s = cond (misfit most-types (length (s .0)) || misfit most-terms (length (s .1))) (Some (refusal TableSize 0)) None
 
