@@ -19,8 +19,6 @@ HERE = os.path.dirname(os.path.realpath(__file__))
 WORD = re.compile(r"[^\s(){};,.@«»\"\[\]`]+")
 GUILLEMETS = re.compile(r"«([^»\s]*)»")
 KEYWORDS = set("as break const continue crate else enum fn for if impl in let loop match mod move mut pub ref return self static struct trait true type unsafe use where while record ruleset data open".split())
-# The folders of functions below proofs/: what follows a dot there is mostly a name that the check makes.
-MADE = re.compile(r"/proofs/.*[^/]+/(Answers|Invariants|Choices|Proof)\.antt$")
 
 
 def snake(word):
@@ -36,7 +34,7 @@ def code_and_comment(line):
     return (line, "") if i < 0 else (line[:i], line[i:])
 
 
-def turn_antt(text, table, made):
+def turn_antt(text, table):
     def word(code):
         def turn(m):
             w = m.group(0)
@@ -63,8 +61,9 @@ def turn_rt(text, table):
         new = table.get(w) or (camel(w) if w[:1].isupper() else snake(w)) if "-" in w else table.get(w, w)
         return "«" + new + "»" if new in KEYWORDS or not re.fullmatch(r"\w+", new) else new
 
-    bare = {a: b for a, b in table.items() if re.fullmatch(r"\w+", a)}
-    return re.sub(r"\b\w+\b", lambda m: bare.get(m.group(0), m.group(0)), GUILLEMETS.sub(quoted, text))
+    # Bare names: those without a dash, and those of types and facts, which begin with a capital letter.
+    bare = {a: b for a, b in table.items() if re.fullmatch(r"\w+", a) or a[0].isupper()}
+    return re.sub(r"\b\w+(?:-\w+)*", lambda m: bare.get(m.group(0), m.group(0)), GUILLEMETS.sub(quoted, text))
 
 
 def main(top):
@@ -79,7 +78,7 @@ def main(top):
             path = os.path.join(folder, name)
             with open(path, encoding="utf-8") as f:
                 old = f.read()
-            new = turn_antt(old, table, MADE.search(path)) if name.endswith(".antt") else turn_rt(old, table)
+            new = turn_antt(old, table) if name.endswith(".antt") else turn_rt(old, table)
             if new != old:
                 count += 1
                 with open(path, "w", encoding="utf-8") as f:

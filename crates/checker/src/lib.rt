@@ -1,4 +1,5 @@
 // Checks the two tables of a rule: a sheet that passes keeps the laws of tables, and its rule has the type nat.
+#![tactic(auto)]
 
 mod depth;
 mod forms;

@@ -1,4 +1,6 @@
 // Tables with what the checker says of them.
+#![tactic(auto)]
+
 use checker::{Fault, Passed, Refusal, check};
 use rows::{TermRow, TypeRow};
 use text::OpenForm;

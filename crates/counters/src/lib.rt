@@ -1,4 +1,5 @@
 // Counters, which answer a rule's questions with amounts: the trait, a basket, a price list and a split.
+#![tactic(auto)]
 
 mod basket;
 mod counter;

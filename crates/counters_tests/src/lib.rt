@@ -1,4 +1,5 @@
 // Counters as another maker writes them, code over any counter, and the tests of the counters.
+#![tactic(auto)]
 
 mod flat;
 mod points;

@@ -1,4 +1,5 @@
 // Runs rules: the store of frames and cells, and the machine's step over it.
+#![tactic(auto)]
 
 mod limits;
 mod machine;

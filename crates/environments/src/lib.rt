@@ -1,4 +1,6 @@
 // The environment machine over the rows of a sheet, in specs/. The functions here have theorems for their contracts.
+#![tactic(auto)]
+
 ghost use Rattle.environments.specs.Laws.{Laws};
 ghost use Rattle.environments.specs.Cases.{Cases};
 

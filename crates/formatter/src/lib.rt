@@ -1,8 +1,10 @@
 // Makes the text of a rule tight, or says in a line why not.
+#![tactic(auto)]
+
 ghost use Rattle.std.specs.Prelude.{◌≡◌, ℕ, ◌≤◌, List, ◌++◌, length, take, IfOk, None, Ok};
 ghost use Rattle.checker.specs.Verdicts.{verdict};
 ghost use Rattle.checker.specs.Sheets.{tables};
-ghost use Rattle.formatter.specs.Theorems.{Read-rows-pass, Tidy-stays, Stays};
+ghost use Rattle.formatter.specs.Theorems.{ReadRowsPass, TidyStays, Stays};
 ghost use Rattle.formatter.specs.Lines.{newline, refusal_line as refusal_line_of, line, tidied_tables, tidied, chomped, formatted};
 
 use checker::Passed;
@@ -123,7 +125,7 @@ pub fn format(heap: Global, input: &[u8]) -> Result<Vec<u8>, AllocError>
 
 // What tidying gives is tidy: tidying it again changes nothing.
 pub fn tidy_stays()
-    ensures { Tidy-stays }
+    ensures { TidyStays }
 {
     grammar::reads_exactly();
     theory::rows_unfold();
@@ -132,7 +134,7 @@ pub fn tidy_stays()
 
 // What is read keeps the laws of tables, so that the check can refuse it only for its binders and types.
 pub fn read_rows_pass()
-    ensures { Read-rows-pass 16384 1024 2048 }
+    ensures { ReadRowsPass 16384 1024 2048 }
 {
     grammar::reads_exactly();
     checker::verdict_means();

@@ -1,6 +1,8 @@
 // What the text of a rule is, and what reading one gives, in specs/. Each function here has a theorem for its contract.
-ghost use Rattle.grammar.specs.Theorems.{Reads-exactly, Reads-once, Tight-renders};
-ghost use Rattle.grammar.specs.Refusals.{Refuses-rightly, Wrong-once};
+#![tactic(auto)]
+
+ghost use Rattle.grammar.specs.Theorems.{ReadsExactly, ReadsOnce, TightRenders};
+ghost use Rattle.grammar.specs.Refusals.{RefusesRightly, WrongOnce};
 
 mod bytes;
 mod fault;
@@ -11,7 +13,7 @@ pub use fault::Fault;
 // A text is read exactly when it is the text of a term for which the rows suffice; the tables are then that
 // term's rows, stand for it, and keep every law of tables.
 pub fn reads_exactly()
-    ensures { Reads-exactly 16384 1024 2048 }
+    ensures { ReadsExactly 16384 1024 2048 }
 {
     theory::rows_stand();
     theory::rows_lawful();
@@ -19,7 +21,7 @@ pub fn reads_exactly()
 
 // A text is the text of one term at most.
 pub fn reads_once()
-    ensures { Reads-once }
+    ensures { ReadsOnce }
 {
     theory::rows_stand();
 }
@@ -27,15 +29,15 @@ pub fn reads_once()
 // A text that is refused is too long, or it may be that of a term up to the place that is named. Either it goes wrong
 // there, with any rows, or rows of the kind that is named run out there, and with more of them it is read further.
 pub fn refuses_rightly()
-    ensures { Refuses-rightly 16384 1024 2048 }
+    ensures { RefusesRightly 16384 1024 2048 }
 {}
 
 // A text goes wrong at one place at most, by one fault.
 pub fn wrong_once()
-    ensures { Wrong-once }
+    ensures { WrongOnce }
 {}
 
 // The tight text of a term is a text of it.
 pub fn tight_renders()
-    ensures { Tight-renders 999999999 }
+    ensures { TightRenders 999999999 }
 {}

@@ -1,7 +1,9 @@
 // What a rule's text is read as, in lines that people can read.
+#![tactic(auto)]
+
 ghost use Rattle.std.specs.Prelude.{◌≡◌, ℕ, ◌<◌, ◌≤◌, ◌++◌, length, take, IfOk, string_bytes, OnOk};
 ghost use Rattle.checker.specs.Verdicts.{verdict};
-ghost use Rattle.listing.specs.Theorems.{Read-rows-pass};
+ghost use Rattle.listing.specs.Theorems.{ReadRowsPass};
 ghost use Rattle.listing.specs.Lines.{type_word, term_word, type_line_of, term_head_of, term_parts_of, type_line, term_line, lines, counts_line, refusal_line, chomped, listed, verdict_lines, table_lines, shown};
 
 use checker::Passed;
@@ -218,7 +220,7 @@ pub fn list(heap: Global, input: &[u8]) -> Result<String, AllocError>
 
 // What is read keeps the laws of tables, so that the check can refuse it only for its binders and types.
 pub fn read_rows_pass()
-    ensures { Read-rows-pass 16384 1024 2048 }
+    ensures { ReadRowsPass 16384 1024 2048 }
 {
     grammar::reads_exactly();
     checker::verdict_means();

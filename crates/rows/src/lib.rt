@@ -1,5 +1,6 @@
 // The rows of a rule's two tables, the forms that they stand for, the limits on them, the search for an equal type row,
 // and the stack that the readers of tables share.
+#![tactic(auto)]
 
 mod forms;
 mod search;

@@ -1,4 +1,6 @@
 // The text of a rule: the lexer, the reader and the writer.
+#![tactic(auto)]
+
 mod digits;
 mod lengths;
 mod lexer;

@@ -1,5 +1,7 @@
 // Texts with what they are read as. The reader is called with rows that hold other things before, so that what it
 // leaves in them is its own doing.
+#![tactic(auto)]
+
 use rows::{TermRow, TypeRow};
 use text::{Counts, OpenForm, Refusal};
 

@@ -1,4 +1,6 @@
 // Shows what a rule on standard input is read as: its tables, row by row, or the refusal.
+#![tactic(auto)]
+
 use std::io;
 use std::io::Read;
 

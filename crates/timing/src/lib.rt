@@ -1,4 +1,6 @@
 // Reads a text again and again, for the programs of bench/ to time. Nothing else uses it.
+#![tactic(auto)]
+
 use rows::{MOST_TERMS, MOST_TYPES, TermRow, TypeRow};
 use text::OpenForm;
 

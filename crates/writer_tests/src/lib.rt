@@ -1,4 +1,6 @@
 // Tables and texts with what is written of them. The buffer holds other bytes before, so that what stays of them shows.
+#![tactic(auto)]
+
 use checker::{Passed, check};
 use rows::{MOST_TERMS, MOST_TYPES, TermRow, TypeRow};
 use text::{OpenForm, WriteRefusal};

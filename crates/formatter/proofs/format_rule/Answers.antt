@@ -8,13 +8,13 @@ use Rattle.formatter.proofs.format_rule.Goals.{In-Ok}
 read_rows : (c : In-Ok) → Rows (outcome_within 16384 1024 2048 1024 2048 64 c.args.rule.now) c.in-Ok.n c.read.new.types c.read.new.terms
 read_rows c = made_rows _ c.in-Ok.n c.read.new.types c.read.new.terms 1024 2048 c.in-Ok.ensures.answers c.in-Ok.ensures.type_rows c.in-Ok.ensures.term_rows
 
-pub format-made-requires : goal.format-made-requires
-format-made-requires c = let r = read_rows (goal.at.format-made-requires c).In-Ok in record { types = r.types_within; terms = r.terms_within }
+pub format_made-requires : goal.format_made-requires
+format_made-requires c = let r = read_rows (goal.at.format_made-requires c).In-Ok in record { types = r.types_within; terms = r.terms_within }
 
 pub returns-in-Ok : goal.returns-in-Ok
 returns-in-Ok c =
     let r = read_rows (goal.at.returns-in-Ok c).In-Ok in
-    subst (λ l. IfOk c.format-made.result (λ v. vec_items v ≡ l)) (ap line r.same) c.format-made.ensures
+    subst (λ l. IfOk c.format_made.result (λ v. vec_items v ≡ l)) (ap line r.same) c.format_made.ensures
 
 pub returns-in-Err : goal.returns-in-Err
 returns-in-Err c =

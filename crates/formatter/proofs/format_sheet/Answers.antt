@@ -8,8 +8,8 @@ use Rattle.formatter.proofs.format_sheet.Goals as goal
 
 pub returns-in-Ok : goal.returns-in-Ok
 returns-in-Ok c =
-    subst (λ l. IfOk c.text-line.result (λ v. vec_items v ≡ l))
-    (wrote (text_of (tables c.args.sheet.now)) (replicate 16384 0) _ c.in-Ok.n (length-replicate {A = ℕ} 16384 0) c.in-Ok.ensures.answers c.in-Ok.ensures.bytes) c.text-line.ensures
+    subst (λ l. IfOk c.text_line.result (λ v. vec_items v ≡ l))
+    (wrote (text_of (tables c.args.sheet.now)) (replicate 16384 0) _ c.in-Ok.n (length-replicate {A = ℕ} 16384 0) c.in-Ok.ensures.answers c.in-Ok.ensures.bytes) c.text_line.ensures
 
 pub returns-in-Err : goal.returns-in-Err
 returns-in-Err c =

@@ -8,8 +8,8 @@ pub returns-in-Ok : goal.returns-in-Ok
 returns-in-Ok c =
     let types = c.args.types.now in
     let terms = c.args.terms.now in
-    subst (λ l. IfOk c.format-sheet.result (λ v. vec_items v ≡ l))
-    (λ i. line (tidied_tables (c.in-Ok.ensures.filled i) (passed (verdict (types, terms) 64) c.in-Ok.ensures.answers i))) c.format-sheet.ensures
+    subst (λ l. IfOk c.format_sheet.result (λ v. vec_items v ≡ l))
+    (λ i. line (tidied_tables (c.in-Ok.ensures.filled i) (passed (verdict (types, terms) 64) c.in-Ok.ensures.answers i))) c.format_sheet.ensures
 
 pub returns-in-Err : goal.returns-in-Err
 returns-in-Err c =

@@ -4,5 +4,5 @@ use Rattle.listing.proofs.add_type.Goals as goal
 
 pub returns : goal.returns
 returns c =
-    c.in-ok-push-str.ensures.bytes
-    ∙ ap (λ l. string_bytes c.args.out.now ++ l) (c.as-str.ensures.value ∙ c.in-ok-line.ensures ∙ ap (λ w. type_line_of c.args.place w c.args.row) c.type_word.ensures)
+    c.in_ok-push_str.ensures.bytes
+    ∙ ap (λ l. string_bytes c.args.out.now ++ l) (c.as_str.ensures.value ∙ c.in_ok-line.ensures ∙ ap (λ w. type_line_of c.args.place w c.args.row) c.type_word.ensures)

@@ -8,7 +8,7 @@ pub returns-in-Ok : goal.returns-in-Ok
 returns-in-Ok c =
     let types = c.args.types.now in
     let terms = c.args.terms.now in
-    subst (λ l. IfOk c.list-rows.result (λ s. string_bytes s ≡ l)) (passed_lines (verdict (types, terms) 64) types terms c.in-Ok.ensures.answers) c.list-rows.ensures
+    subst (λ l. IfOk c.list_rows.result (λ s. string_bytes s ≡ l)) (passed_lines (verdict (types, terms) 64) types terms c.in-Ok.ensures.answers) c.list_rows.ensures
 
 pub returns-in-Err : goal.returns-in-Err
 returns-in-Err c =

@@ -8,8 +8,8 @@ use Rattle.checker.proofs.parts.bad_part.Goals as goal
 pub loop-i-init : goal.loop-i-init
 loop-i-init c = (refl, λ j. zero_count 2048 j)
 
-pub mark-row-requires : goal.mark-row-requires
-mark-row-requires c = record {
+pub mark_row-requires : goal.mark_row-requires
+mark_row-requires c = record {
   placed = c.requires.placed c.loop-i.i c.loop-i-test.true;
   within = omega (arith, c.loop-i.invariant.0, c.loop-i-test.true, c.requires.few);
   small = λ k. omega (arith, c.loop-i.invariant.1 k, uses_small c.args.terms.now c.loop-i.i (omega (arith, c.loop-i-test.true)) k, c.loop-i-test.true, c.requires.few);
@@ -17,7 +17,7 @@ mark-row-requires c = record {
 
 pub loop-i-preserved : goal.loop-i-preserved
 loop-i-preserved c =
-    (omega arith, λ j. c.mark-row.ensures.counted j ∙ ap (λ x. x + times j (parts_of (get_or c.args.terms.now c.loop-i.i no_row))) (c.loop-i.invariant.1 j) ∙ sym (uses_more c.args.terms.now c.loop-i.i no_row c.loop-i-test.true j))
+    (omega arith, λ j. c.mark_row.ensures.counted j ∙ ap (λ x. x + times j (parts_of (get_or c.args.terms.now c.loop-i.i no_row))) (c.loop-i.invariant.1 j) ∙ sym (uses_more c.args.terms.now c.loop-i.i no_row c.loop-i-test.true j))
 
 pub returns-then-counts-j-ne1 : goal.returns-then-counts-j-ne1
 returns-then-counts-j-ne1 c =

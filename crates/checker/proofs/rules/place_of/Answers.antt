@@ -3,13 +3,13 @@ use Rattle.std.proofs.lemmas.List.{at_drop_more, at_drop_all}
 use Rattle.rows.specs.Rows.{nat_row, row_place, row_alike}
 use Rattle.checker.proofs.rules.place_of.Goals as goal
 
-pub returns-then-is-same : goal.returns-then-is-same
-returns-then-is-same c =
+pub returns-then-is_same : goal.returns-then-is_same
+returns-then-is_same c =
     let bs = c.args.types.now in
     let i = c.loop-i.i in
     let q = get_or bs i nat_row in
     let here : row_place c.args.row (drop i bs) ≡ cond (row_alike c.args.row q) 0 (suc (row_place c.args.row (drop (i + 1) bs))) = at_drop_more (row_place c.args.row) bs i nat_row c.loop-i-test.true in
-    let none = here ∙ sym (ap (λ b. cond b 0 (suc (row_place c.args.row (drop (i + 1) bs)))) c.if-is-same.ensures) in
+    let none = here ∙ sym (ap (λ b. cond b 0 (suc (row_place c.args.row (drop (i + 1) bs)))) c.if-is_same.ensures) in
     omega (arith, c.loop-i.invariant)
 
 pub loop-i-preserved : goal.loop-i-preserved
@@ -18,7 +18,7 @@ loop-i-preserved c =
     let i = c.loop-i.i in
     let q = get_or bs i nat_row in
     let here : row_place c.args.row (drop i bs) ≡ cond (row_alike c.args.row q) 0 (suc (row_place c.args.row (drop (i + 1) bs))) = at_drop_more (row_place c.args.row) bs i nat_row c.loop-i-test.true in
-    let more = here ∙ sym (ap (λ b. cond b 0 (suc (row_place c.args.row (drop (i + 1) bs)))) c.if-is-same.ensures) in
+    let more = here ∙ sym (ap (λ b. cond b 0 (suc (row_place c.args.row (drop (i + 1) bs)))) c.if-is_same.ensures) in
     omega (arith, c.loop-i.invariant)
 
 pub returns : goal.returns

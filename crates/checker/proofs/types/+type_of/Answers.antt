@@ -13,21 +13,21 @@ use Rattle.checker.proofs.types.+type_of.Goals.{Joined-parts-gt0, Joined-parts-g
 
 pub enter-requires : goal.enter-requires
 enter-requires t c =
-    (room_a (room c.args.names.now) c.args.terms.now c.requires.placed c.args.p (length (view c.args.names.now)) c.requires.within c.requires.deep c.arity-of-parts.result c.arity-of-parts.ensures c.args.types.now c.name-bound-bound.result c.name-bound-bound.ensures c.if-parts-gt0.true).2
+    (room_a (room c.args.names.now) c.args.terms.now c.requires.placed c.args.p (length (view c.args.names.now)) c.requires.within c.requires.deep c.arity_of-parts.result c.arity_of-parts.ensures c.args.types.now c.name_bound-bound.result c.name_bound-bound.ensures c.if-parts-gt0.true).2
 
-pub type-of-x-requires : goal.type-of-x-requires
-type-of-x-requires t c =
-    let h = room_a (room c.args.names.now) c.args.terms.now c.requires.placed c.args.p (length (view c.args.names.now)) c.requires.within c.requires.deep c.arity-of-parts.result c.arity-of-parts.ensures c.args.types.now c.name-bound-bound.result c.name-bound-bound.ensures c.if-parts-gt0.true in
-    (omega (arith, h.0, c.decreases), (c.requires.placed, (omega (arith, h.0, c.requires.within), moved c.args.terms.now _ _ _ _ _ c.enter.ensures.capacity (ap length c.enter.ensures.entries ∙ length_under c.name-bound-bound.result (view c.args.names.now)) h.1)))
+pub type_of-x-requires : goal.type_of-x-requires
+type_of-x-requires t c =
+    let h = room_a (room c.args.names.now) c.args.terms.now c.requires.placed c.args.p (length (view c.args.names.now)) c.requires.within c.requires.deep c.arity_of-parts.result c.arity_of-parts.ensures c.args.types.now c.name_bound-bound.result c.name_bound-bound.ensures c.if-parts-gt0.true in
+    (omega (arith, h.0, c.decreases), (c.requires.placed, (omega (arith, h.0, c.requires.within), moved c.args.terms.now _ _ _ _ _ c.enter.ensures.capacity (ap length c.enter.ensures.entries ∙ length_under c.name_bound-bound.result (view c.args.names.now)) h.1)))
 
 same_x : (t : ℕ) (c : Joined-parts-gt0 t) → Same c.args.names.now c.if-parts-gt0.names
 same_x t c =
     elim c.if-parts-gt0.branch [
       | then-parts-gt0 w ↦
           same_trans _ _ _
-          (around c.args.names.now w.enter.new.names w.type-of-x.new.names w.leave.new.names w.name-bound-bound.result
+          (around c.args.names.now w.enter.new.names w.type_of-x.new.names w.leave.new.names w.name_bound-bound.result
           w.enter.ensures.entries w.enter.ensures.capacity
-          (record { entries = w.type-of-x.ensures.entries; capacity = w.type-of-x.ensures.capacity })
+          (record { entries = w.type_of-x.ensures.entries; capacity = w.type_of-x.ensures.capacity })
           w.leave.ensures.entries w.leave.ensures.capacity)
           (same_refl _ _ w.names-is)
       | else-parts-gt0 w ↦ same_refl _ _ w.names-is
@@ -38,24 +38,24 @@ value_x t c =
     let r = get_or c.args.terms.now c.args.p no_row in
     elim c.if-parts-gt0.branch [
       | then-parts-gt0 w ↦
-          w.x-is ∙ some_part 0 (arity r.kind) c.arity-of-parts.result _ _ (Ok 0) c.arity-of-parts.ensures w.if-parts-gt0.true
-          (w.type-of-x.ensures.value ∙ ap (type_at c.args.types.now c.args.terms.now r.a) (w.enter.ensures.entries ∙ ap (λ o. under o (view c.args.names.now)) w.name-bound-bound.ensures))
-      | else-parts-gt0 w ↦ w.x-is ∙ no_part 0 (arity r.kind) c.arity-of-parts.result _ (Ok 0) c.arity-of-parts.ensures w.if-parts-gt0.false
+          w.x-is ∙ some_part 0 (arity r.kind) c.arity_of-parts.result _ _ (Ok 0) c.arity_of-parts.ensures w.if-parts-gt0.true
+          (w.type_of-x.ensures.value ∙ ap (type_at c.args.types.now c.args.terms.now r.a) (w.enter.ensures.entries ∙ ap (λ o. under o (view c.args.names.now)) w.name_bound-bound.ensures))
+      | else-parts-gt0 w ↦ w.x-is ∙ no_part 0 (arity r.kind) c.arity_of-parts.result _ (Ok 0) c.arity_of-parts.ensures w.if-parts-gt0.false
     ]
 
 -- ---- the second part
 
-pub type-of-y-requires : goal.type-of-y-requires
-type-of-y-requires t c =
-    let s = same_x t (goal.at.type-of-y-requires t c).Joined-parts-gt0 in
-    let h = shallow_b (room c.args.names.now) c.args.terms.now c.requires.placed c.args.p (length (view c.args.names.now)) c.requires.within c.requires.deep c.arity-of-parts.result c.arity-of-parts.ensures c.if-parts-gt1.true in
+pub type_of-y-requires : goal.type_of-y-requires
+type_of-y-requires t c =
+    let s = same_x t (goal.at.type_of-y-requires t c).Joined-parts-gt0 in
+    let h = shallow_b (room c.args.names.now) c.args.terms.now c.requires.placed c.args.p (length (view c.args.names.now)) c.requires.within c.requires.deep c.arity_of-parts.result c.arity_of-parts.ensures c.if-parts-gt1.true in
     (omega (arith, h.0, c.decreases), (c.requires.placed, (omega (arith, h.0, c.requires.within), moved c.args.terms.now _ _ _ _ _ s.capacity (ap length s.entries) h.1)))
 
 same_y : (t : ℕ) (c : Joined-parts-gt1 t) → Same c.args.names.now c.if-parts-gt1.names
 same_y t c =
     let s = same_x t (goal.at.Joined-parts-gt1 t c).Joined-parts-gt0 in
     elim c.if-parts-gt1.branch [
-      | then-parts-gt1 w ↦ same_trans _ _ _ s (same_trans _ _ _ (record { entries = w.type-of-y.ensures.entries; capacity = w.type-of-y.ensures.capacity }) (same_refl _ _ w.names-is))
+      | then-parts-gt1 w ↦ same_trans _ _ _ s (same_trans _ _ _ (record { entries = w.type_of-y.ensures.entries; capacity = w.type_of-y.ensures.capacity }) (same_refl _ _ w.names-is))
       | else-parts-gt1 w ↦ same_trans _ _ _ s (same_refl _ _ w.names-is)
     ]
 
@@ -65,9 +65,9 @@ value_y t c =
     let s = same_x t (goal.at.Joined-parts-gt1 t c).Joined-parts-gt0 in
     elim c.if-parts-gt1.branch [
       | then-parts-gt1 w ↦
-          w.y-is ∙ some_part 1 (arity r.kind) c.arity-of-parts.result _ _ (Ok 0) c.arity-of-parts.ensures w.if-parts-gt1.true
-          (w.type-of-y.ensures.value ∙ ap (type_at c.args.types.now c.args.terms.now r.b) s.entries)
-      | else-parts-gt1 w ↦ w.y-is ∙ no_part 1 (arity r.kind) c.arity-of-parts.result _ (Ok 0) c.arity-of-parts.ensures w.if-parts-gt1.false
+          w.y-is ∙ some_part 1 (arity r.kind) c.arity_of-parts.result _ _ (Ok 0) c.arity_of-parts.ensures w.if-parts-gt1.true
+          (w.type_of-y.ensures.value ∙ ap (type_at c.args.types.now c.args.terms.now r.b) s.entries)
+      | else-parts-gt1 w ↦ w.y-is ∙ no_part 1 (arity r.kind) c.arity_of-parts.result _ (Ok 0) c.arity_of-parts.ensures w.if-parts-gt1.false
     ]
 
 -- ---- the third part
@@ -75,13 +75,13 @@ value_y t c =
 pub enter-requires-then-parts-gt2 : goal.enter-requires-then-parts-gt2
 enter-requires-then-parts-gt2 t c =
     let s = same_y t (goal.at.enter-requires-then-parts-gt2 t c).Joined-parts-gt1 in
-    let h = room_c (room c.args.names.now) c.args.terms.now c.requires.placed c.args.p (length (view c.args.names.now)) c.requires.within c.requires.deep c.arity-of-parts.result c.arity-of-parts.ensures c.if-parts-gt2.true in
+    let h = room_c (room c.args.names.now) c.args.terms.now c.requires.placed c.args.p (length (view c.args.names.now)) c.requires.within c.requires.deep c.arity_of-parts.result c.arity_of-parts.ensures c.if-parts-gt2.true in
     omega (arith, h.2, ap length s.entries, s.capacity)
 
-pub type-of-z-requires : goal.type-of-z-requires
-type-of-z-requires t c =
-    let s = same_y t (goal.at.type-of-z-requires t c).Joined-parts-gt1 in
-    let h = room_c (room c.args.names.now) c.args.terms.now c.requires.placed c.args.p (length (view c.args.names.now)) c.requires.within c.requires.deep c.arity-of-parts.result c.arity-of-parts.ensures c.if-parts-gt2.true in
+pub type_of-z-requires : goal.type_of-z-requires
+type_of-z-requires t c =
+    let s = same_y t (goal.at.type_of-z-requires t c).Joined-parts-gt1 in
+    let h = room_c (room c.args.names.now) c.args.terms.now c.requires.placed c.args.p (length (view c.args.names.now)) c.requires.within c.requires.deep c.arity_of-parts.result c.arity_of-parts.ensures c.if-parts-gt2.true in
     (omega (arith, h.0, c.decreases), (c.requires.placed, (omega (arith, h.0, c.requires.within), moved c.args.terms.now _ _ _ _ _ (c.enter-then-parts-gt2.ensures.capacity ∙ s.capacity) (ap length (c.enter-then-parts-gt2.ensures.entries ∙ ap (λ l. 0 ∷ l) s.entries) ∙ length_under (Some 0) (view c.args.names.now)) h.1)))
 
 same_z : (t : ℕ) (c : Joined-parts-gt2 t) → Same c.args.names.now c.if-parts-gt2.names
@@ -91,9 +91,9 @@ same_z t c =
       | then-parts-gt2 w ↦
           same_trans _ _ _ s
           (same_trans _ _ _
-          (around c.if-parts-gt1.names w.enter-then-parts-gt2.new.names w.type-of-z.new.names w.leave-then-parts-gt2.new.names (Some 0)
+          (around c.if-parts-gt1.names w.enter-then-parts-gt2.new.names w.type_of-z.new.names w.leave-then-parts-gt2.new.names (Some 0)
           w.enter-then-parts-gt2.ensures.entries w.enter-then-parts-gt2.ensures.capacity
-          (record { entries = w.type-of-z.ensures.entries; capacity = w.type-of-z.ensures.capacity })
+          (record { entries = w.type_of-z.ensures.entries; capacity = w.type_of-z.ensures.capacity })
           w.leave-then-parts-gt2.ensures.entries w.leave-then-parts-gt2.ensures.capacity)
           (same_refl _ _ w.names-is))
       | else-parts-gt2 w ↦ same_trans _ _ _ s (same_refl _ _ w.names-is)
@@ -105,9 +105,9 @@ value_z t c =
     let s = same_y t (goal.at.Joined-parts-gt2 t c).Joined-parts-gt1 in
     elim c.if-parts-gt2.branch [
       | then-parts-gt2 w ↦
-          w.z-is ∙ some_part 2 (arity r.kind) c.arity-of-parts.result _ _ (Ok 0) c.arity-of-parts.ensures w.if-parts-gt2.true
-          (w.type-of-z.ensures.value ∙ ap (type_at c.args.types.now c.args.terms.now r.c) (w.enter-then-parts-gt2.ensures.entries ∙ ap (λ l. 0 ∷ l) s.entries))
-      | else-parts-gt2 w ↦ w.z-is ∙ no_part 2 (arity r.kind) c.arity-of-parts.result _ (Ok 0) c.arity-of-parts.ensures w.if-parts-gt2.false
+          w.z-is ∙ some_part 2 (arity r.kind) c.arity_of-parts.result _ _ (Ok 0) c.arity_of-parts.ensures w.if-parts-gt2.true
+          (w.type_of-z.ensures.value ∙ ap (type_at c.args.types.now c.args.terms.now r.c) (w.enter-then-parts-gt2.ensures.entries ∙ ap (λ l. 0 ∷ l) s.entries))
+      | else-parts-gt2 w ↦ w.z-is ∙ no_part 2 (arity r.kind) c.arity_of-parts.result _ (Ok 0) c.arity_of-parts.ensures w.if-parts-gt2.false
     ]
 
 pub returns : goal.returns

@@ -11,8 +11,8 @@ use Rattle.counters_tests.proofs.till.ask.Goals as goal
 
 pub returns : goal.returns
 returns c =
-    let lines = c.in-ok-fill.ensures in
-    let rows = c.in-ok-fill-2.ensures in
+    let lines = c.in_ok-fill.ensures in
+    let rows = c.in_ok-fill-2.ensures in
     let question = c.args.question in (
       ap (λ o. earlier o (prices_outcome c.args.rows.now)) (sym lines.result) ∙ sym rows.result,
       c.answer.ensures.entry

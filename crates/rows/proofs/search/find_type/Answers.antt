@@ -7,13 +7,13 @@ use Rattle.rows.proofs.search.find_type.Goals as goal
 abbrev zeros : TypeRow
 zeros = record { kind = 0; left = 0; right = 0 }
 
-pub returns-then-same-row : goal.returns-then-same-row
-returns-then-same-row c =
+pub returns-then-same_row : goal.returns-then-same_row
+returns-then-same_row c =
     let bs = c.args.made.now in
     let i = c.loop-i.i in
     let q = get_or bs i zeros in
     let here : row_place c.args.row (drop i bs) ≡ cond (row_alike c.args.row q) 0 (suc (row_place c.args.row (drop (i + 1) bs))) = at_drop_more (row_place c.args.row) bs i zeros c.loop-i-test.true in
-    let none = here ∙ sym (ap (λ b. cond b 0 (suc (row_place c.args.row (drop (i + 1) bs)))) c.if-same-row.ensures) in
+    let none = here ∙ sym (ap (λ b. cond b 0 (suc (row_place c.args.row (drop (i + 1) bs)))) c.if-same_row.ensures) in
     omega (arith, c.loop-i.invariant)
 
 pub loop-i-preserved : goal.loop-i-preserved
@@ -22,7 +22,7 @@ loop-i-preserved c =
     let i = c.loop-i.i in
     let q = get_or bs i zeros in
     let here : row_place c.args.row (drop i bs) ≡ cond (row_alike c.args.row q) 0 (suc (row_place c.args.row (drop (i + 1) bs))) = at_drop_more (row_place c.args.row) bs i zeros c.loop-i-test.true in
-    let more = here ∙ sym (ap (λ b. cond b 0 (suc (row_place c.args.row (drop (i + 1) bs)))) c.if-same-row.ensures) in
+    let more = here ∙ sym (ap (λ b. cond b 0 (suc (row_place c.args.row (drop (i + 1) bs)))) c.if-same_row.ensures) in
     omega (arith, c.loop-i.invariant)
 
 pub returns : goal.returns

@@ -14,18 +14,18 @@ returns-then-n-lt10 t c = subst (Wrote _ _ _ _) (sym (decimal_digit c.args.n c.i
 longer : (n : ℕ) → 10 ≤ n → n < 2 ^ 32 → length (decimal n) ≡ length (decimal (n / 10)) + 1
 longer n h small = ap length (decimal_step n h (omega arith)) ∙ length-append (decimal (n / 10)) ((48 + n % 10) ∷ [])
 
-pub digits-of-at-requires : goal.digits-of-at-requires
-digits-of-at-requires t c = let more = longer c.args.n c.if-n-lt10.false (omega arith) in (omega (arith, c.decreases), omega (arith, c.requires))
+pub digits_of-at-requires : goal.digits_of-at-requires
+digits_of-at-requires t c = let more = longer c.args.n c.if-n-lt10.false (omega arith) in (omega (arith, c.decreases), omega (arith, c.requires))
 
 pub bounds-digits-at : goal.bounds-digits-at
-bounds-digits-at t c = let more = longer c.args.n c.if-n-lt10.false (omega arith) in omega (arith, c.requires, c.digits-of-at.ensures.ends)
+bounds-digits-at t c = let more = longer c.args.n c.if-n-lt10.false (omega arith) in omega (arith, c.requires, c.digits_of-at.ensures.ends)
 
 pub overflow-add-result : goal.overflow-add-result
 overflow-add-result t c =
     let more = longer c.args.n c.if-n-lt10.false (omega arith) in
-    let ends = c.digits-of-at.ensures.ends in
+    let ends = c.digits_of-at.ensures.ends in
     let room = c.requires in
     search rules
 
 pub returns : goal.returns
-returns t c = subst (Wrote _ _ _ _) (sym (decimal_step c.args.n c.if-n-lt10.false (omega arith))) (then c.digits-of-at.ensures (record { ends = refl; stored = refl }))
+returns t c = subst (Wrote _ _ _ _) (sym (decimal_step c.args.n c.if-n-lt10.false (omega arith))) (then c.digits_of-at.ensures (record { ends = refl; stored = refl }))

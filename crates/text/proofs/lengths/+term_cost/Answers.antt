@@ -9,43 +9,43 @@ use Rattle.text.specs.Writes.{spent, total, type_texts, part_texts, term_text}
 use Rattle.text.proofs.Spends.{both_spent, none_spent, spent_nothing}
 use Rattle.text.proofs.RowTexts.{form_length, part_next, parts_length}
 use Rattle.text.proofs.lengths.+term_cost.Goals as goal
-use Rattle.text.proofs.lengths.+term_cost.Goals.{After-frame-length, After-part}
+use Rattle.text.proofs.lengths.+term_cost.Goals.{After-frame_length, After-part}
 
 abbrev no_row : TermRow
 no_row = leaf_row 0 0
 
 -- the length of the whole by its parts
-whole : (t : ℕ) (c : After-frame-length t)
+whole : (t : ℕ) (c : After-frame_length t)
     → length (term_text (c.args.types.now, c.args.terms.now) c.args.p)
-    ≡ c.frame-length.result + (total (type_texts c.args.types.now (get_or c.args.terms.now c.args.p no_row)) + total (part_texts (c.args.types.now, c.args.terms.now) (get_or c.args.terms.now c.args.p no_row)))
+    ≡ c.frame_length.result + (total (type_texts c.args.types.now (get_or c.args.terms.now c.args.p no_row)) + total (part_texts (c.args.types.now, c.args.terms.now) (get_or c.args.terms.now c.args.p no_row)))
 whole t c =
     let s : Tables = (c.args.types.now, c.args.terms.now) in
     let r = get_or c.args.terms.now c.args.p no_row in
-    let frame = c.frame-length.ensures ∙ ap (λ f. 2 + length (word f) + types f + parts f) c.form-of-form.ensures in
+    let frame = c.frame_length.ensures ∙ ap (λ f. 2 + length (word f) + types f + parts f) c.form_of-form.ensures in
     form_length s c.args.p r (c.requires.unfolds.form c.args.p no_row c.requires.inside c.if-row-lt2.false) ∙ omega arith
 
-pub returns-in-err-after-frame : goal.returns-in-err-after-frame
-returns-in-err-after-frame t c =
-    c.from-residual.ensures ∙ none_spent _ _ _ c.args.budget (whole t (goal.at.returns-in-err-after-frame t c).After-frame-length) c.in-err-after-frame.ensures
+pub returns-in_err-after_frame : goal.returns-in_err-after_frame
+returns-in_err-after_frame t c =
+    c.from-residual.ensures ∙ none_spent _ _ _ c.args.budget (whole t (goal.at.returns-in_err-after_frame t c).After-frame_length) c.in_err-after_frame.ensures
 
-pub returns-in-err-left : goal.returns-in-err-left
-returns-in-err-left t c =
-    let is = whole t (goal.at.returns-in-err-left t c).After-frame-length in
-    let m = c.frame-length.result in
+pub returns-in_err-left : goal.returns-in_err-left
+returns-in_err-left t c =
+    let is = whole t (goal.at.returns-in_err-left t c).After-frame_length in
+    let m = c.frame_length.result in
     let r = get_or c.args.terms.now c.args.p no_row in
     let n = total (type_texts c.args.types.now r) in
     let k = total (part_texts (c.args.types.now, c.args.terms.now) r) in
-    c.from-residual-in-err-left.ensures
-    ∙ none_spent (m + n) k _ c.args.budget (omega arith) (both_spent m n (m + n) c.args.budget _ _ (omega arith) c.in-ok-after-frame.ensures c.in-err-left.ensures)
+    c.from-residual-in_err-left.ensures
+    ∙ none_spent (m + n) k _ c.args.budget (omega arith) (both_spent m n (m + n) c.args.budget _ _ (omega arith) c.in_ok-after_frame.ensures c.in_err-left.ensures)
 
 pub loop-i-init : goal.loop-i-init
 loop-i-init t c =
-    let is = whole t (goal.at.loop-i-init t c).After-frame-length in
-    let m = c.frame-length.result in
+    let is = whole t (goal.at.loop-i-init t c).After-frame_length in
+    let m = c.frame_length.result in
     let r = get_or c.args.terms.now c.args.p no_row in
     let n = total (type_texts c.args.types.now r) in
     let k = total (part_texts (c.args.types.now, c.args.terms.now) r) in
-    both_spent (m + n) k _ c.args.budget c.in-ok-left.left (spent k c.in-ok-left.left) (omega arith) (both_spent m n (m + n) c.args.budget _ _ (omega arith) c.in-ok-after-frame.ensures c.in-ok-left.ensures) refl
+    both_spent (m + n) k _ c.args.budget c.in_ok-left.left (spent k c.in_ok-left.left) (omega arith) (both_spent m n (m + n) c.args.budget _ _ (omega arith) c.in_ok-after_frame.ensures c.in_ok-left.ensures) refl
 
 -- the part that is counted next
 next : (t : ℕ) (c : After-part t)
@@ -54,7 +54,7 @@ next t c =
     let s : Tables = (c.args.types.now, c.args.terms.now) in
     let r = get_or c.args.terms.now c.args.p no_row in
     let u = c.requires.unfolds.form c.args.p no_row c.requires.inside c.if-row-lt2.false in
-    let n = c.parts-i-end.ensures.value ∙ ap parts c.form-of-form.ensures in
+    let n = c.parts-i-end.ensures.value ∙ ap parts c.form_of-form.ensures in
     let few = c.parts-i-end.ensures.bound in
     let lt = c.loop-i-test.true in
     (part_next s c.args.p r u c.loop-i.i c.part.result c.if-row-lt2.false (omega arith) (omega arith) c.part.ensures).1
@@ -66,11 +66,11 @@ loop-i-preserved t c =
     let es = part_texts s r in
     let i = c.loop-i.i in
     let count = parts_length s c.args.p r (c.requires.unfolds.form c.args.p no_row c.requires.inside c.if-row-lt2.false) in
-    let n = c.parts-i-end.ensures.value ∙ ap parts c.form-of-form.ensures in
+    let n = c.parts-i-end.ensures.value ∙ ap parts c.form_of-form.ensures in
     let lt = c.loop-i-test.true in
     let step : total (drop i es) ≡ length (get_or es i []) + total (drop (i + 1) es) = at_drop_more total es i [] (omega arith) in
     let is = ap length (next t (goal.at.loop-i-preserved t c).After-part) in
-    both_spent (length (term_text s c.part.result)) (total (drop (i + 1) es)) (total (drop i es)) c.loop-i.left c.in-ok-left-2.left (spent (total (drop (i + 1) es)) c.in-ok-left-2.left) (omega arith) c.in-ok-left-2.ensures refl
+    both_spent (length (term_text s c.part.result)) (total (drop (i + 1) es)) (total (drop i es)) c.loop-i.left c.in_ok-left-2.left (spent (total (drop (i + 1) es)) c.in_ok-left-2.left) (omega arith) c.in_ok-left-2.ensures refl
     ∙ c.loop-i.invariant
 
 pub returns : goal.returns
@@ -79,7 +79,7 @@ returns t c =
     let r = get_or c.args.terms.now c.args.p no_row in
     let es = part_texts s r in
     let count = parts_length s c.args.p r (c.requires.unfolds.form c.args.p no_row c.requires.inside c.if-row-lt2.false) in
-    let n = c.parts-i-end.ensures.value ∙ ap parts c.form-of-form.ensures in
+    let n = c.parts-i-end.ensures.value ∙ ap parts c.form_of-form.ensures in
     let ge = c.loop-i-test.false in
     let end : total (drop c.loop-i.i es) ≡ 0 = at_drop_all total es c.loop-i.i (omega arith) in
     spent_nothing c.loop-i.left ∙ ap (λ k. spent k c.loop-i.left) (sym end) ∙ c.loop-i.invariant

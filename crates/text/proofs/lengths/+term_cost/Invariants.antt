@@ -2,8 +2,8 @@ use Rattle.std.proofs.Common.{◌≡◌, length, drop}
 use Rattle.text.specs.Writes.{spent, total, part_texts, term_text}
 use Rattle.text.proofs.lengths.+term_cost.Given as goal
 
-abbrev pub decreases-term-cost : goal.decreases-term-cost
-decreases-term-cost l = l.p
+abbrev pub decreases-term_cost : goal.decreases-term_cost
+decreases-term_cost l = l.p
 
 -- the parts that are left take of what is left as the whole text takes of the budget
 abbrev pub invariant-loop-i : goal.invariant-loop-i

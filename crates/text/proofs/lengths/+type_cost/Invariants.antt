@@ -1,4 +1,4 @@
 use Rattle.text.proofs.lengths.+type_cost.Given as goal
 
-abbrev pub decreases-type-cost : goal.decreases-type-cost
-decreases-type-cost l = l.p
+abbrev pub decreases-type_cost : goal.decreases-type_cost
+decreases-type_cost l = l.p

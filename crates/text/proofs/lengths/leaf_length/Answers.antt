@@ -2,11 +2,11 @@ use Rattle.std.proofs.Common.{arith, rules}
 use Rattle.std.proofs.lemmas.Fmt.{length-decimal-le}
 use Rattle.text.proofs.lengths.leaf_length.Goals as goal
 
-pub digits-of-long-requires : goal.digits-of-long-requires
-digits-of-long-requires c = let few = length-decimal-le 10 c.args.row.number (omega arith) (omega arith) (omega arith) in omega arith
+pub digits_of-long-requires : goal.digits_of-long-requires
+digits_of-long-requires c = let few = length-decimal-le 10 c.args.row.number (omega arith) (omega arith) (omega arith) in omega arith
 
 pub overflow-add-result : goal.overflow-add-result
 overflow-add-result c =
     let few = length-decimal-le 10 c.args.row.number (omega arith) (omega arith) (omega arith) in
-    let ends = c.digits-of-long.ensures.ends in
+    let ends = c.digits_of-long.ensures.ends in
     search rules

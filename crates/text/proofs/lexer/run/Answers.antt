@@ -7,7 +7,7 @@ use Rattle.text.proofs.lexer.run.Goals as goal
 pub loop-left-preserved : goal.loop-left-preserved
 loop-left-preserved c =
     let some : 0 < length c.loop-left.left.now = omega (arith, ltb-false) in
-    let more = run_more c.args.k c.loop-left.left.now some (sym c.class-of.ensures ∙ c.if-eq.ensures) in
+    let more = run_more c.args.k c.loop-left.left.now some (sym c.class_of.ensures ∙ c.if-eq.ensures) in
     let cut = ap length (split c.loop-left.left.now some) in
     (omega arith, omega arith)
 
@@ -19,5 +19,5 @@ returns-in-default c =
 
 pub returns-else-eq : goal.returns-else-eq
 returns-else-eq c =
-    let left = run_none c.args.k c.loop-left.left.now (omega (arith, ltb-false)) (λ e. c.if-eq.ensures (c.class-of.ensures ∙ e)) in
+    let left = run_none c.args.k c.loop-left.left.now (omega (arith, ltb-false)) (λ e. c.if-eq.ensures (c.class_of.ensures ∙ e)) in
     record { value = omega arith; bound = omega arith }

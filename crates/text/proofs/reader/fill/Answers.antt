@@ -16,10 +16,10 @@ whole c = outcome c.args.types.now c.args.terms.now c.args.rows.now c.args.text.
 answered : (c : After-run) → Answers c.run.result (rows_of c.run.new.types c.run.new.terms c.run.new.counts) (whole c)
 answered c =
     let ls = length-set c.args.types.now 0 nat_row in
-    let k : c.min-type-room.result - 0 ≡ min (length c.args.types.now) 1024 = omega (arith, c.min-type-room.ensures) in
-    let j : c.min-term-room.result - 0 ≡ min (length c.args.terms.now) 2048 = omega (arith, c.min-term-room.ensures) in
+    let k : c.min-type_room.result - 0 ≡ min (length c.args.types.now) 1024 = omega (arith, c.min-type_room.ensures) in
+    let j : c.min-term_room.result - 0 ≡ min (length c.args.terms.now) 2048 = omega (arith, c.min-term_room.ensures) in
     subst (Answers c.run.result (rows_of c.run.new.types c.run.new.terms c.run.new.counts))
-    (sym (same_reading c.args.types.now c.args.terms.now c.args.rows.now c.args.text.now (c.min-type-room.result - 0) (c.min-term-room.result - 0) c.new-opens.result (omega arith) (λ e. c.if-types-eq0.false (omega arith)) k j c.new-opens.ensures.empty c.new-opens.ensures.capacity))
+    (sym (same_reading c.args.types.now c.args.terms.now c.args.rows.now c.args.text.now (c.min-type_room.result - 0) (c.min-term_room.result - 0) c.new-opens.result (omega arith) (λ e. c.if-types-eq0.false (omega arith)) k j c.new-opens.ensures.empty c.new-opens.ensures.capacity))
     c.run.ensures.answers
 
 pub returns-in-Ok : goal.returns-in-Ok

@@ -69,8 +69,8 @@ returns-in-Stop c =
     let s' = rows_of c.turn.new.types c.turn.new.terms c.turn.new.counts in
     let fs' = brackets c.turn.new.opens in
     record {
-      goes = subst (Answers (Err (record { fault = c.in-Stop.fault; place = c.saturating-sub-place.result })) s') (sym (at_stop m (room c.args.opens.now) c.args.long bs s fs (tok c.in-Took.tok) cs k c.in-Stop.fault (stopped_with s' fs' c.in-Stop.fault _ c.in-Stop.ensures.turned)))
-          (ap (λ p. Err (record { fault = c.in-Stop.fault; place = p })) (c.saturating-sub-place.ensures ∙ ap (λ l. c.args.long - length l) c.trim-start.ensures));
+      goes = subst (Answers (Err (record { fault = c.in-Stop.fault; place = c.saturating_sub-place.result })) s') (sym (at_stop m (room c.args.opens.now) c.args.long bs s fs (tok c.in-Took.tok) cs k c.in-Stop.fault (stopped_with s' fs' c.in-Stop.fault _ c.in-Stop.ensures.turned)))
+          (ap (λ p. Err (record { fault = c.in-Stop.fault; place = p })) (c.saturating_sub-place.ensures ∙ ap (λ l. c.args.long - length l) c.trim-start.ensures));
       tabled = c.turn.ensures.tabled;
       capacity = c.turn.ensures.capacity;
     }

@@ -13,6 +13,6 @@ returns-in-None c =
 pub returns-in-Some : goal.returns-in-Some
 returns-in-Some c =
     record {
-      turned = λ s. spelt_go (view c.args.opens.now) (view c.replace-top.new.self) _ c.args.o s c.in-Some.ensures c.replace-top.ensures.after;
-      capacity = c.replace-top.ensures.capacity;
+      turned = λ s. spelt_go (view c.args.opens.now) (view c.replace_top.new.self) _ c.args.o s c.in-Some.ensures c.replace_top.ensures.after;
+      capacity = c.replace_top.ensures.capacity;
     }

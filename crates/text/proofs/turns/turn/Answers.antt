@@ -12,9 +12,9 @@ returns-in-TermWord c =
     let terms = c.args.terms.now in
     let s = rows_of types terms c.args.counts.now in
     record {
-      turned = subst (λ w. Meets c.on-term-word.result s (brackets c.on-term-word.new.opens) (meet (into_tables (length types) (length terms)) (room c.args.opens.now) w (tok c.args.tok) s (brackets c.args.opens.now))) c.in-TermWord.ensures (c.on-term-word.ensures.turned (length types) (length terms) s);
+      turned = subst (λ w. Meets c.on_term_word.result s (brackets c.on_term_word.new.opens) (meet (into_tables (length types) (length terms)) (room c.args.opens.now) w (tok c.args.tok) s (brackets c.args.opens.now))) c.in-TermWord.ensures (c.on_term_word.ensures.turned (length types) (length terms) s);
       tabled = c.requires;
-      capacity = c.on-term-word.ensures.capacity;
+      capacity = c.on_term_word.ensures.capacity;
     }
 
 pub returns-in-TypeWord : goal.returns-in-TypeWord
@@ -23,7 +23,7 @@ returns-in-TypeWord c =
     let terms = c.args.terms.now in
     let s = rows_of types terms c.args.counts.now in
     record {
-      turned = subst (λ w. Meets c.on-type-word.result s (brackets c.on-type-word.new.opens) (meet (into_tables (length types) (length terms)) (room c.args.opens.now) w (tok c.args.tok) s (brackets c.args.opens.now))) c.in-TypeWord.ensures (c.on-type-word.ensures.turned (length types) (length terms) s);
+      turned = subst (λ w. Meets c.on_type_word.result s (brackets c.on_type_word.new.opens) (meet (into_tables (length types) (length terms)) (room c.args.opens.now) w (tok c.args.tok) s (brackets c.args.opens.now))) c.in-TypeWord.ensures (c.on_type_word.ensures.turned (length types) (length terms) s);
       tabled = c.requires;
-      capacity = c.on-type-word.ensures.capacity;
+      capacity = c.on_type_word.ensures.capacity;
     }

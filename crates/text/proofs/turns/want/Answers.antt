@@ -7,4 +7,4 @@ pub returns-in-None : goal.returns-in-None
 returns-in-None c = wanted_none (view c.args.opens.now) c.in-None.ensures
 
 pub returns-in-Some : goal.returns-in-Some
-returns-in-Some c = c.want-at.ensures ∙ wanted_some (view c.args.opens.now) _ c.in-Some.ensures
+returns-in-Some c = c.want_at.ensures ∙ wanted_some (view c.args.opens.now) _ c.in-Some.ensures

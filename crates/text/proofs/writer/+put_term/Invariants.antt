@@ -4,8 +4,8 @@ use Rattle.text.specs.Writes.{part_texts}
 use Rattle.text.proofs.Runs.{Writing}
 use Rattle.text.proofs.writer.+put_term.Given as goal
 
-abbrev pub decreases-put-term : goal.decreases-put-term
-decreases-put-term l = l.p
+abbrev pub decreases-put_term : goal.decreases-put_term
+decreases-put_term l = l.p
 
 -- the parts that are left, and the closing bracket, are still to be written
 abbrev pub invariant-loop-i : goal.invariant-loop-i

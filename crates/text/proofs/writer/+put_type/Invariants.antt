@@ -1,4 +1,4 @@
 use Rattle.text.proofs.writer.+put_type.Given as goal
 
-abbrev pub decreases-put-type : goal.decreases-put-type
-decreases-put-type l = l.p
+abbrev pub decreases-put_type : goal.decreases-put_type
+decreases-put_type l = l.p

@@ -4,18 +4,18 @@ use Rattle.text.specs.Writes.{Wrote}
 use Rattle.text.proofs.Runs.{front}
 use Rattle.text.proofs.writer.put_number.Goals as goal
 
-pub digits-of-long-requires : goal.digits-of-long-requires
-digits-of-long-requires c = let few = length-decimal-le 10 c.args.n (omega arith) (omega arith) (omega arith) in omega arith
+pub digits_of-long-requires : goal.digits_of-long-requires
+digits_of-long-requires c = let few = length-decimal-le 10 c.args.n (omega arith) (omega arith) (omega arith) in omega arith
 
 pub slice-bounds-put-end : goal.slice-bounds-put-end
 slice-bounds-put-end c =
     let few = length-decimal-le 10 c.args.n (omega arith) (omega arith) (omega arith) in
-    omega (arith, c.digits-of-long.ensures.ends)
+    omega (arith, c.digits_of-long.ensures.ends)
 
 pub returns : goal.returns
 returns c =
     let few = length-decimal-le 10 c.args.n (omega arith) (omega arith) (omega arith) in
-    let digits = c.digits-of-long.new.digits in
-    let long = c.digits-of-long.result in
+    let digits = c.digits_of-long.new.digits in
+    let long = c.digits_of-long.result in
     let is : long - 0 ≡ long = omega arith in
-    subst (Wrote _ _ _ _) (ap (λ k. take k digits) is ∙ front c.digits-of-long.ensures (omega arith)) c.put.ensures
+    subst (Wrote _ _ _ _) (ap (λ k. take k digits) is ∙ front c.digits_of-long.ensures (omega arith)) c.put.ensures

@@ -12,11 +12,11 @@ returns c =
     let s = tables c.args.sheet.now in
     let old = c.args.buffer.now in
     let same : ◌≡◌ {A = Tables} (c.types.result.now, c.terms.result.now) s = λ i. (c.types.ensures i, c.terms.ensures i) in
-    let answers = c.write-tables.ensures.answers ∙ ap (λ q. written (text_of q) old) same in
-    let bytes = c.write-tables.ensures.bytes ∙ ap (λ q. stored (text_of q) old) same in
-    let rule = c.is-rule.ensures in
+    let answers = c.write_tables.ensures.answers ∙ ap (λ q. written (text_of q) old) same in
+    let bytes = c.write_tables.ensures.bytes ∙ ap (λ q. stored (text_of q) old) same in
+    let rule = c.is_rule.ensures in
     let small = (c.rows_unfold.ensures s rule.lawful).small (length s.1 - 1) (let some = rule.lawful.term_count.0 in omega arith) in
-    let count = c.rows-counted.ensures s rule.lawful in
+    let count = c.rows_counted.ensures s rule.lawful in
     let few_types = rule.lawful.type_count.1 in
     let few_terms = rule.lawful.term_count.1 in
     record {

@@ -5,10 +5,10 @@ use Rattle.checker.proofs.Meaning.{told, answered, passes_so}
 use Rattle.checker.proofs.sheet.check.check.Goals as goal
 
 pub invariant-of-place : goal.invariant-of-place
-invariant-of-place c = (passes_so (c.args.types.now, c.args.terms.now) (length c.args.sight.now) (answered _ _ c.in-ok-judge.ensures), tt)
+invariant-of-place c = (passes_so (c.args.types.now, c.args.terms.now) (length c.args.sight.now) (answered _ _ c.in_ok-judge.ensures), tt)
 
-pub returns-in-err-judge : goal.returns-in-err-judge
-returns-in-err-judge c =
+pub returns-in_err-judge : goal.returns-in_err-judge
+returns-in_err-judge c =
     let s : Tables = (c.args.types.now, c.args.terms.now) in
     let e : c.from-residual.result ≡ answer (verdict s (length c.args.sight.now)) = search rules in
     let t = told s (length c.args.sight.now) c.from-residual.result e in
@@ -17,6 +17,6 @@ returns-in-err-judge c =
 pub returns : goal.returns
 returns c =
     let s : Tables = (c.args.types.now, c.args.terms.now) in
-    let e : Ok tt ≡ answer (verdict s (length c.args.sight.now)) = c.in-ok-judge.ensures in
+    let e : Ok tt ≡ answer (verdict s (length c.args.sight.now)) = c.in_ok-judge.ensures in
     let t = told s (length c.args.sight.now) (Ok tt) e in
     record { answers = e; filled = search rules; means = t.0; lasts = t.1 }

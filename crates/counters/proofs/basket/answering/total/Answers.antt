@@ -9,13 +9,13 @@ use Rattle.counters.proofs.basket.answering.total.Goals as goal
 abbrev none : Line
 none = record { article = 0; quantity = 0 }
 
-pub with-line-so-far-requires : goal.with-line-so-far-requires
-with-line-so-far-requires c =
+pub with_line-so_far-requires : goal.with_line-so_far-requires
+with_line-so_far-requires c =
     omega (arith, ap amount_or_zero c.loop-line.invariant, room c.args.article c.args.lines.now c.loop-line.line-index none c.requires c.loop-line-test.true)
 
 pub loop-line-preserved : goal.loop-line-preserved
 loop-line-preserved c =
-    c.with-line-so-far.ensures
+    c.with_line-so_far.ensures
     ∙ ap (λ o. with_line c.args.article o (get_or c.args.lines.now c.loop-line.line-index none)) c.loop-line.invariant
     ∙ table_more c.args.article c.args.lines.now c.loop-line.line-index none c.loop-line-test.true
 

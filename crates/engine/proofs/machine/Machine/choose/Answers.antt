@@ -8,13 +8,13 @@ pub returns-in-Eval-default : goal.returns-in-Eval-default
 returns-in-Eval-default g c = record { comes = c.eval.ensures (g.C.Counter.table c.args.counter.now); alike = refl }
 
 pub returns-in-Lam-Some : goal.returns-in-Lam-Some
-returns-in-Lam-Some g c = record { comes = c.return-lam.ensures (g.C.Counter.table c.args.counter.now); alike = refl }
+returns-in-Lam-Some g c = record { comes = c.return_lam.ensures (g.C.Counter.table c.args.counter.now); alike = refl }
 
 pub returns-in-Pair-Some : goal.returns-in-Pair-Some
-returns-in-Pair-Some g c = record { comes = c.return-pair.ensures (g.C.Counter.table c.args.counter.now); alike = refl }
+returns-in-Pair-Some g c = record { comes = c.return_pair.ensures (g.C.Counter.table c.args.counter.now); alike = refl }
 
 pub returns-in-Fail-Some : goal.returns-in-Fail-Some
-returns-in-Fail-Some g c = record { comes = c.fail-to.ensures (tables c.args.sheet.now) (g.C.Counter.table c.args.counter.now); alike = refl }
+returns-in-Fail-Some g c = record { comes = c.fail_to.ensures (tables c.args.sheet.now) (g.C.Counter.table c.args.counter.now); alike = refl }
 
 pub returns-in-Numeral-default : goal.returns-in-Numeral-default
 returns-in-Numeral-default g c =

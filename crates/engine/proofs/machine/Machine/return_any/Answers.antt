@@ -36,7 +36,7 @@ returns-in-PairFirst c M =
     let p = c.in-PairFirst.pair in
     let e = c.in-PairFirst.env in
     let v = seconds s M cs p e c.args.v c.requires.value in
-    let row : c.row-at-row.result ≡ row_at s p = c.row-at-row.ensures ∙ ap (λ l. get_or l p (leaf_row 0 0)) c.terms.ensures in
+    let row : c.row_at-row.result ≡ row_at s p = c.row_at-row.ensures ∙ ap (λ l. get_or l p (leaf_row 0 0)) c.terms.ensures in
     seconded s c.args.frames c.args.cells M cs m.moves c.requires.ready.full c.args.v (F.PairFirst p e) (row_at s p).b e (λ k. (v k).0) (λ k. (v k).1) m.mode (frames_in m.store) c.requires.at (top_as (frames_in m.store) c.args.f (F.PairFirst p e) c.in-PairFirst.is c.requires.top) o.new.self.mode (frames_in o.new.self.store) (cells_in o.new.self.store) o.new.self.moves o.result c.requires.ready.tall
     (o.ensures.next ∙ ap (λ (u : TermRow). N.Enter u.b e) row) o.ensures.frames o.ensures.cells o.ensures.moves
 
@@ -63,7 +63,7 @@ returns-in-PairLam c M =
     let r = c.in-PairLam.row in
     let e = c.in-PairLam.env in
     let v = lam_pairs s M cs p r e c.args.v c.requires.value in
-    let right = c.mode-value-in-PairLam.ensures in
+    let right = c.mode_value-in-PairLam.ensures in
     paired s c.args.frames c.args.cells M cs m.moves c.requires.ready.full c.args.v (F.PairLam p r e) (C.Pair p (V.Lam r e) (mode_value c.args.v)) (λ k. (v k).0) (λ k. (v k).1) m.mode (frames_in m.store) c.requires.at (top_as (frames_in m.store) c.args.f (F.PairLam p r e) c.in-PairLam.is c.requires.top) o.new.self.mode (frames_in o.new.self.store) (cells_in o.new.self.store) o.new.self.moves o.result c.requires.ready.tall
     o.ensures.next o.ensures.frames (o.ensures.cells ∙ ap (λ (w : Value). cond (leb c.args.cells (length cs)) cs (cs ++ (C.Pair p (V.Lam r e) w ∷ []))) right) o.ensures.moves o.ensures.mode
 
@@ -76,7 +76,7 @@ returns-in-PairPair c M =
     let p = c.in-PairPair.pair in
     let i = c.in-PairPair.cell in
     let v = pair_pairs s M cs p i c.args.v c.requires.value in
-    let right = c.mode-value-in-PairPair.ensures in
+    let right = c.mode_value-in-PairPair.ensures in
     paired s c.args.frames c.args.cells M cs m.moves c.requires.ready.full c.args.v (F.PairPair p i) (C.Pair p (V.Pair i) (mode_value c.args.v)) (λ k. (v k).0) (λ k. (v k).1) m.mode (frames_in m.store) c.requires.at (top_as (frames_in m.store) c.args.f (F.PairPair p i) c.in-PairPair.is c.requires.top) o.new.self.mode (frames_in o.new.self.store) (cells_in o.new.self.store) o.new.self.moves o.result c.requires.ready.tall
     o.ensures.next o.ensures.frames (o.ensures.cells ∙ ap (λ (w : Value). cond (leb c.args.cells (length cs)) cs (cs ++ (C.Pair p (V.Pair i) w ∷ []))) right) o.ensures.moves o.ensures.mode
 

@@ -77,4 +77,4 @@ pub returns-in-Ifz : goal.returns-in-Ifz
 returns-in-Ifz g c = record { comes = c.branch-self.ensures (g.C.Counter.table c.args.counter.now); alike = refl }
 
 pub returns-in-default : goal.returns-in-default
-returns-in-default g c = record { comes = c.return-any.ensures (g.C.Counter.table c.args.counter.now); alike = refl }
+returns-in-default g c = record { comes = c.return_any.ensures (g.C.Counter.table c.args.counter.now); alike = refl }

@@ -21,8 +21,8 @@ returns-in-Fst c M =
     let m = c.args.self.now in
     let cs = cells_in m.store in
     let o = c.give in
-    let x = c.left-of-half.result in
-    let y = ap (mode_of s) (c.left-of-half.ensures ∙ ap left_of c.cell.ensures) ∙ left_half s cs c.args.cell in
+    let x = c.left_of-half.result in
+    let y = ap (mode_of s) (c.left_of-half.ensures ∙ ap left_of c.cell.ensures) ∙ left_half s cs c.args.cell in
     gave s c.args.frames c.args.cells M cs m.moves c.requires.ready.full (W.Pair c.args.cell) F.Fst x (λ k. leads_to s cs x _ k y) (λ k. (λ u. refl, refl, refl)) m.mode (frames_in m.store) c.requires.at (top_as (frames_in m.store) c.args.f (F.Fst) c.in-Fst.is c.requires.top) o.new.self.mode (frames_in o.new.self.store) (cells_in o.new.self.store) o.new.self.moves o.result c.requires.ready.tall
     o.ensures.next o.ensures.frames o.ensures.cells o.ensures.moves
 
@@ -32,7 +32,7 @@ returns-in-Snd c M =
     let m = c.args.self.now in
     let cs = cells_in m.store in
     let o = c.give-in-Snd in
-    let x = c.right-of-half.result in
-    let y = ap (mode_of s) (c.right-of-half.ensures ∙ ap right_of c.cell-in-Snd.ensures) ∙ right_half s cs c.args.cell in
+    let x = c.right_of-half.result in
+    let y = ap (mode_of s) (c.right_of-half.ensures ∙ ap right_of c.cell-in-Snd.ensures) ∙ right_half s cs c.args.cell in
     gave s c.args.frames c.args.cells M cs m.moves c.requires.ready.full (W.Pair c.args.cell) F.Snd x (λ k. leads_to s cs x _ k y) (λ k. (λ u. refl, refl, refl)) m.mode (frames_in m.store) c.requires.at (top_as (frames_in m.store) c.args.f (F.Snd) c.in-Snd.is c.requires.top) o.new.self.mode (frames_in o.new.self.store) (cells_in o.new.self.store) o.new.self.moves o.result c.requires.ready.tall
     o.ensures.next o.ensures.frames o.ensures.cells o.ensures.moves

@@ -9,7 +9,7 @@ use Rattle.engine.proofs.run.Run.open.Goals as goal
 
 pub invariant-of-result : goal.invariant-of-result
 invariant-of-result c =
-    let k = open_kept c.laws.ensures (tables c.args.sheet) c.is-rule.ensures.lawful c.is-rule.ensures.typed c.new.result c.beginning.result c.terms-rows.result.now c.terms-rows.ensures c.beginning.ensures c.new.ensures.mode c.new.ensures.moves c.new.ensures.frames c.new.ensures.cells in
+    let k = open_kept c.laws.ensures (tables c.args.sheet) c.is_rule.ensures.lawful c.is_rule.ensures.typed c.new.result c.beginning.result c.terms-rows.result.now c.terms-rows.ensures c.beginning.ensures c.new.ensures.mode c.new.ensures.moves c.new.ensures.frames c.new.ensures.cells in
     let f = ap length c.new.ensures.frames in
     let x = ap length c.new.ensures.cells in
     (omega arith, (omega (arith, c.new.ensures.moves), (omega (arith, f), (omega (arith, x), (k.holds, (k.typed, tt))))))
@@ -17,7 +17,7 @@ invariant-of-result c =
 pub returns : goal.returns
 unfolding view
 returns c =
-    let k = open_kept c.laws.ensures (tables c.args.sheet) c.is-rule.ensures.lawful c.is-rule.ensures.typed c.new.result c.beginning.result c.terms-rows.result.now c.terms-rows.ensures c.beginning.ensures c.new.ensures.mode c.new.ensures.moves c.new.ensures.frames c.new.ensures.cells in
+    let k = open_kept c.laws.ensures (tables c.args.sheet) c.is_rule.ensures.lawful c.is_rule.ensures.typed c.new.result c.beginning.result c.terms-rows.result.now c.terms-rows.ensures c.beginning.ensures c.new.ensures.mode c.new.ensures.moves c.new.ensures.frames c.new.ensures.cells in
     let rule = rule_of (tables c.args.sheet) in
     let same : ◌≡◌ {A = Running} (record { limits = limits_of c.args.limits; standing = _ }) (start (limits_of c.args.limits) rule) = λ i. record { limits = limits_of c.args.limits; standing = k.agrees i } in
-    record { opens = same; came = subst (λ (o : Running). Came rule (limits_of c.args.limits) [] [] o) (sym same) (opened c.is-rule.ensures.typed) }
+    record { opens = same; came = subst (λ (o : Running). Came rule (limits_of c.args.limits) [] [] o) (sym same) (opened c.is_rule.ensures.typed) }

@@ -23,10 +23,10 @@ unfolding view
 returns-then-self g c =
     let r = c.args.self.now in
     let h = spent_halts (tables r.sheet) (limits_of c.args.self.now.limits) (standing_of (tables r.sheet) r.machine r.steps) c.laws.ensures c.if-self.true in
-    let still = halted c.laws.ensures (tables c.args.self.now.sheet) c.is-rule.ensures.lawful (g.C.Counter.table c.args.counter.now) (g.C.Counter.laws c.args.counter.now) (limits_of c.args.self.now.limits) c.args.self.now.machine r.machine r.steps (c.args.self.now.fitting, c.args.self.now.typing) h in
+    let still = halted c.laws.ensures (tables c.args.self.now.sheet) c.is_rule.ensures.lawful (g.C.Counter.table c.args.counter.now) (g.C.Counter.laws c.args.counter.now) (limits_of c.args.self.now.limits) c.args.self.now.machine r.machine r.steps (c.args.self.now.fitting, c.args.self.now.typing) h in
     record {
       once = λ i. record { limits = limits_of r.limits; standing = still i };
-      step = record { halted = rests c.laws.ensures (tables c.args.self.now.sheet) c.is-rule.ensures.lawful (g.C.Counter.table c.args.counter.now) (g.C.Counter.laws c.args.counter.now) (limits_of c.args.self.now.limits) c.args.self.now.machine r.machine r.steps (c.args.self.now.fitting, c.args.self.now.typing) h; stays = refl };
+      step = record { halted = rests c.laws.ensures (tables c.args.self.now.sheet) c.is_rule.ensures.lawful (g.C.Counter.table c.args.counter.now) (g.C.Counter.laws c.args.counter.now) (limits_of c.args.self.now.limits) c.args.self.now.machine r.machine r.steps (c.args.self.now.fitting, c.args.self.now.typing) h; stays = refl };
       alike = refl;
     }
 
@@ -37,7 +37,7 @@ step-requires g c =
     let m = r.machine in
     record {
       ready = record { framed = r.limits.framed; celled = r.limits.celled; tall = r.standing; full = r.holding; more = omega (arith, r.moving, r.spending, r.limits.fueled) };
-      small = small c.laws.ensures s c.is-rule.ensures.lawful m.mode (frames_in m.store) (cells_in m.store) r.fitting;
+      small = small c.laws.ensures s c.is_rule.ensures.lawful m.mode (frames_in m.store) (cells_in m.store) r.fitting;
       suited = top_suits s (cells_in m.store) m.mode (frames_in m.store) (c.laws.ensures.typed_suits (terms_of (nodes_of s)) (state_of s m) r.typing);
     }
 
@@ -47,7 +47,7 @@ invariant-of-self g c =
     let r = c.args.self.now in
     let s = tables r.sheet in
     let st = c.if-not-step.ensures.stepped in
-    let f = stayed_fits c.laws.ensures (tables r.sheet) c.is-rule.ensures.lawful (g.C.Counter.table c.args.counter.now) (g.C.Counter.laws c.args.counter.now) (limits_of r.limits) r.machine c.step.new.self r.steps (r.fitting, r.typing) st in (
+    let f = stayed_fits c.laws.ensures (tables r.sheet) c.is_rule.ensures.lawful (g.C.Counter.table c.args.counter.now) (g.C.Counter.laws c.args.counter.now) (limits_of r.limits) r.machine c.step.new.self r.steps (r.fitting, r.typing) st in (
       r.spending,
       (
         omega (arith, st.unmoved, r.moving),
@@ -70,12 +70,12 @@ returns-then-not-step g c =
     let r = c.args.self.now in
     let s = tables r.sheet in
     let st = c.if-not-step.ensures.stepped in
-    let h = stayed_halts c.laws.ensures (tables r.sheet) c.is-rule.ensures.lawful (g.C.Counter.table c.args.counter.now) (g.C.Counter.laws c.args.counter.now) (limits_of r.limits) r.machine c.step.new.self r.steps (r.fitting, r.typing) st in
-    let same = ap (standing (terms_of (nodes_of s))) (stayed_same c.laws.ensures (tables r.sheet) c.is-rule.ensures.lawful (g.C.Counter.table c.args.counter.now) (g.C.Counter.laws c.args.counter.now) (limits_of r.limits) r.machine c.step.new.self r.steps (r.fitting, r.typing) st) in
-    let still = halted c.laws.ensures (tables r.sheet) c.is-rule.ensures.lawful (g.C.Counter.table c.args.counter.now) (g.C.Counter.laws c.args.counter.now) (limits_of r.limits) r.machine c.step.new.self r.steps (r.fitting, r.typing) h in
+    let h = stayed_halts c.laws.ensures (tables r.sheet) c.is_rule.ensures.lawful (g.C.Counter.table c.args.counter.now) (g.C.Counter.laws c.args.counter.now) (limits_of r.limits) r.machine c.step.new.self r.steps (r.fitting, r.typing) st in
+    let same = ap (standing (terms_of (nodes_of s))) (stayed_same c.laws.ensures (tables r.sheet) c.is_rule.ensures.lawful (g.C.Counter.table c.args.counter.now) (g.C.Counter.laws c.args.counter.now) (limits_of r.limits) r.machine c.step.new.self r.steps (r.fitting, r.typing) st) in
+    let still = halted c.laws.ensures (tables r.sheet) c.is_rule.ensures.lawful (g.C.Counter.table c.args.counter.now) (g.C.Counter.laws c.args.counter.now) (limits_of r.limits) r.machine c.step.new.self r.steps (r.fitting, r.typing) h in
     record {
       once = λ i. record { limits = limits_of r.limits; standing = (same ∙ still) i };
-      step = record { halted = rests c.laws.ensures (tables r.sheet) c.is-rule.ensures.lawful (g.C.Counter.table c.args.counter.now) (g.C.Counter.laws c.args.counter.now) (limits_of r.limits) r.machine c.step.new.self r.steps (r.fitting, r.typing) h; stays = λ i. record { limits = limits_of r.limits; standing = same i } };
+      step = record { halted = rests c.laws.ensures (tables r.sheet) c.is_rule.ensures.lawful (g.C.Counter.table c.args.counter.now) (g.C.Counter.laws c.args.counter.now) (limits_of r.limits) r.machine c.step.new.self r.steps (r.fitting, r.typing) h; stays = λ i. record { limits = limits_of r.limits; standing = same i } };
       alike = c.if-not-step.ensures.alike;
     }
 
@@ -85,8 +85,8 @@ invariant-of-self-2 g c =
     let r = c.args.self.now in
     let lasts : r.steps < r.limits.fuel = omega (arith, c.if-self.false, r.spending) in
     let w = c.if-not-step.ensures.stepped in
-    let k = made_kept c.laws.ensures (tables r.sheet) c.is-rule.ensures.lawful (g.C.Counter.table c.args.counter.now) (g.C.Counter.laws c.args.counter.now) (limits_of r.limits) r.machine c.step.new.self r.steps (r.fitting, r.typing) w lasts in
-    let f = made_fits c.laws.ensures (tables r.sheet) c.is-rule.ensures.lawful (g.C.Counter.table c.args.counter.now) (g.C.Counter.laws c.args.counter.now) (limits_of r.limits) r.machine c.step.new.self r.steps (r.fitting, r.typing) w in
+    let k = made_kept c.laws.ensures (tables r.sheet) c.is_rule.ensures.lawful (g.C.Counter.table c.args.counter.now) (g.C.Counter.laws c.args.counter.now) (limits_of r.limits) r.machine c.step.new.self r.steps (r.fitting, r.typing) w lasts in
+    let f = made_fits c.laws.ensures (tables r.sheet) c.is_rule.ensures.lawful (g.C.Counter.table c.args.counter.now) (g.C.Counter.laws c.args.counter.now) (limits_of r.limits) r.machine c.step.new.self r.steps (r.fitting, r.typing) w in
     (omega (arith, lasts), (omega (arith, f.2, r.moving), (f.0, (f.1, (k.holds, (k.typed, tt))))))
 
 pub returns : goal.returns
@@ -95,9 +95,9 @@ returns g c =
     let r = c.args.self.now in
     let lasts : r.steps < r.limits.fuel = omega (arith, c.if-self.false, r.spending) in
     let w = c.if-not-step.ensures.stepped in
-    let k = made_kept c.laws.ensures (tables r.sheet) c.is-rule.ensures.lawful (g.C.Counter.table c.args.counter.now) (g.C.Counter.laws c.args.counter.now) (limits_of r.limits) r.machine c.step.new.self r.steps (r.fitting, r.typing) w lasts in
+    let k = made_kept c.laws.ensures (tables r.sheet) c.is_rule.ensures.lawful (g.C.Counter.table c.args.counter.now) (g.C.Counter.laws c.args.counter.now) (limits_of r.limits) r.machine c.step.new.self r.steps (r.fitting, r.typing) w lasts in
     record {
       once = λ i. record { limits = limits_of r.limits; standing = k.agrees i };
-      step = made_moves c.laws.ensures (tables r.sheet) c.is-rule.ensures.lawful (g.C.Counter.table c.args.counter.now) (g.C.Counter.laws c.args.counter.now) (limits_of r.limits) r.machine c.step.new.self r.steps (r.fitting, r.typing) c.laws-2.ensures w lasts;
+      step = made_moves c.laws.ensures (tables r.sheet) c.is_rule.ensures.lawful (g.C.Counter.table c.args.counter.now) (g.C.Counter.laws c.args.counter.now) (limits_of r.limits) r.machine c.step.new.self r.steps (r.fitting, r.typing) c.laws-2.ensures w lasts;
       alike = c.if-not-step.ensures.alike;
     }

@@ -6,4 +6,4 @@ use Rattle.engine.proofs.store.Store.pop.Goals as goal
 pub returns : goal.returns
 returns c =
     let t = c.args.self.now in
-    record { frames = popped t.frames t.height _ no_frame (omega (arith, t.framed, t.low)) c.saturating-sub-self.ensures; cells = refl }
+    record { frames = popped t.frames t.height _ no_frame (omega (arith, t.framed, t.low)) c.saturating_sub-self.ensures; cells = refl }

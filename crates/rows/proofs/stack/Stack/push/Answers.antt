@@ -1,4 +1,4 @@
-use Rattle.std.proofs.Common.{◌≡◌, length, sym, refl, ap, ◌∙◌, arith, length-set, le-ltb, lt-ltb}
+use Rattle.std.proofs.Common.{length, sym, refl, arith, length-set, le-ltb, lt-ltb}
 use Rattle.rows.proofs.Entries.{entries_push, length_entries}
 use Rattle.rows.proofs.stack.Stack.push.Goals as goal
 
