@@ -1,11 +1,10 @@
 -- A reading by any maker finds a term that the text renders, and makes it; and it finds every one for which there is room.
-use Rattle.std.proofs.Common.{◌≡◌, ℕ, suc, ◌<◌, ◌≤◌, List, [], ◌∷◌, length, Some, None, Option, sym, refl, ap, ◌∙◌, subst, arith}
-use Rattle.grammar.specs.Tokens.{Tok}
+use Rattle.std.proofs.Common.{◌≡◌, ℕ, suc, ◌≤◌, List, [], length, Some, ◌∙◌, subst, arith}
 use Rattle.theory.specs.Syntax.{Term}
-use Rattle.grammar.specs.Reader.{Maker, Outcome, accepted, read}
+use Rattle.grammar.specs.Reader.{Maker, accepted, read}
 use Rattle.grammar.specs.Renders.{Renders}
-use Rattle.grammar.specs.TermTokens.{toks, depth}
-use Rattle.grammar.proofs.Grow.{grow, drive}
+use Rattle.grammar.specs.TermTokens.{depth}
+use Rattle.grammar.proofs.Grow.{grow}
 use Rattle.grammar.proofs.Driven.{driven}
 use Rattle.grammar.proofs.Found.{finds}
 use Rattle.grammar.proofs.Spelt.{Spells, written, spells, tokens, passes}

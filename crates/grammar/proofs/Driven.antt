@@ -1,21 +1,20 @@
 -- The tokens of a term make the machine make that term.
-use Rattle.std.proofs.Common.{◌≡◌, ℕ, suc, ◌+◌, ◌<◌, ◌≤◌, max, Bool, true, false, cond, ltb, List, [], ◌∷◌, ◌++◌, map, length, Some, None, codes, Option, sym, refl, ap, ◌∙◌, append_assoc, arith, le-ltb, lt-ltb}
+use Rattle.std.proofs.Common.{◌≡◌, ℕ, suc, ◌+◌, ◌<◌, ◌≤◌, true, false, cond, ltb, List, [], ◌∷◌, ◌++◌, map, length, Some, None, codes, Option, sym, refl, ap, ◌∙◌, append_assoc, arith, le-ltb, lt-ltb}
 use Rattle.std.proofs.lemmas.List.{append-nil, length_push, length-map}
-use Rattle.grammar.specs.declared.fault.Fault.{Fault}
 use Rattle.grammar.specs.declared.fault.Fault.TheVariants.{Misplaced, TooDeep}
 use Rattle.grammar.specs.Tokens.{Tok, lpar, rpar, word, number, name as hash}
-use Rattle.theory.specs.Syntax.{Ty, nat, Term, num, name}
+use Rattle.theory.specs.Syntax.{Ty, Term}
 use Rattle.rows.specs.declared.forms.Form.{Form}
 use Rattle.rows.specs.declared.forms.Shape.{Shape}
 use Rattle.rows.specs.Forms.{types, parts}
-use Rattle.grammar.specs.Words.{word as word_of, shape_word, form_of, shape_of}
-use Rattle.grammar.specs.Reader.{Maker, Bracket, term_word, type_word, open_type, open_term, Want, a_term, a_type, a_term_word, a_type_word, a_close, wanted, Turn, go, done, stop, give, give_type, made, made_type, replaced, as_form, as_shape, meet, turn}
+use Rattle.grammar.specs.Words.{word as word_of, shape_word}
+use Rattle.grammar.specs.Reader.{Maker, Bracket, term_word, type_word, open_type, open_term, a_term, a_type, a_close, wanted, Turn, go, stop, made, made_type, replaced, as_form, as_shape, meet}
 use Rattle.theory.specs.Lists.{All}
-use Rattle.theory.specs.Folds.{shaped, built, fold, fold_type, most}
-use Rattle.grammar.specs.TermTokens.{joined, between, type_tokens, toks_type, term_tokens, toks, type_depths, depth_type, term_depths, depth}
+use Rattle.theory.specs.Folds.{shaped, built, most}
+use Rattle.grammar.specs.TermTokens.{joined, type_tokens, toks_type, term_tokens, toks, type_depths, depth_type, term_depths, depth}
 use Rattle.theory.specs.Induction.{by_shapes, fold_shaped, by_forms, fold_built}
 use Rattle.grammar.proofs.Words.{form_word, shape_word_of}
-use Rattle.grammar.proofs.Grow.{onward, put, each, each_length, growing_types, grow_type, growing, grow, finished, turned, drive}
+use Rattle.grammar.proofs.Grow.{onward, put, each, each_length, growing_types, grow_type, growing, grow, turned, drive}
 
 pub toks_shaped : (k : Shape) (T U : Ty) (ts : List Tok) → toks_type (shaped k T U) ++ ts ≡ lpar ∷ word (shape_word k) ∷ (toks_type T ++ (toks_type U ++ rpar ∷ ts))
 toks_shaped k T U ts = ap (λ l. l ++ ts) (fold_shaped type_tokens k T U) ∙ simp append_assoc

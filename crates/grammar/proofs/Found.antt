@@ -1,20 +1,19 @@
 -- What the machine makes of tokens is a term, and the tokens are its.
-use Rattle.std.proofs.Common.{◌≡◌, ℕ, zero, suc, ◌+◌, ◌<◌, ◌≤◌, max, Bool, true, false, cond, ltb, List, [], ◌∷◌, ◌++◌, map, length, Some, None, codes, Option, sym, refl, ap, ◌∙◌, append_assoc, arith, ltb-true, le-ltb, lt-ltb}
+use Rattle.std.proofs.Common.{◌≡◌, ℕ, zero, suc, ◌+◌, ◌<◌, ◌≤◌, Bool, true, false, cond, ltb, List, [], ◌∷◌, ◌++◌, map, length, Some, None, codes, Option, sym, refl, ap, ◌∙◌, append_assoc, arith, ltb-true, le-ltb, lt-ltb}
 use Rattle.std.proofs.lemmas.List.{append-nil, length_push, length-map}
-use Rattle.grammar.specs.declared.fault.Fault.{Fault}
-use Rattle.grammar.specs.declared.fault.Fault.TheVariants.{Misplaced, TooDeep, NoTypeRow, NoTermRow}
+use Rattle.grammar.specs.declared.fault.Fault.TheVariants.{Misplaced, TooDeep}
 use Rattle.grammar.specs.Tokens.{Tok, lpar, rpar, word, number, name as hash}
 use Rattle.theory.specs.Syntax.{Ty, nat, Term, num, name}
 use Rattle.rows.specs.declared.forms.Form.{Form}
 use Rattle.rows.specs.declared.forms.Shape.{Shape}
 use Rattle.rows.specs.Forms.{types, parts}
 use Rattle.grammar.specs.Words.{word as word_of, shape_word, form_of, shape_of, same}
-use Rattle.grammar.specs.Reader.{Maker, Bracket, term_word, type_word, open_type, open_term, Want, a_term, a_type, a_term_word, a_type_word, a_close, wanted, Turn, go, done, stop, give, give_type, made, made_type, replaced, as_form, as_shape, meet, turn}
-use Rattle.theory.specs.Folds.{shaped, built, fold, fold_type, most}
-use Rattle.grammar.specs.TermTokens.{joined, between, type_tokens, toks_type, term_tokens, toks, type_depths, depth_type, term_depths, depth}
+use Rattle.grammar.specs.Reader.{Maker, Bracket, term_word, type_word, open_type, open_term, a_term, a_type, a_close, wanted, Turn, go, stop, give, give_type, made, made_type, replaced, as_form, as_shape, meet}
+use Rattle.theory.specs.Folds.{shaped, built, most}
+use Rattle.grammar.specs.TermTokens.{joined, toks_type, toks, type_depths, depth_type, term_depths, depth}
 use Rattle.theory.specs.Induction.{fold_shaped, fold_built}
 use Rattle.grammar.proofs.Words.{same_true, form_is, shape_is}
-use Rattle.grammar.proofs.Grow.{onward, nothing, put, each, each_some, each_length, growing_types, grow_type, growing, grow, finished, turned, drive}
+use Rattle.grammar.proofs.Grow.{onward, nothing, each, each_some, each_length, growing_types, grow_type, growing, grow, finished, turned, drive}
 use Rattle.grammar.proofs.Driven.{toks_shaped, toks_built}
 
 module _ {S X Y : Type 0} (m : Maker S X Y) (room : ℕ) where

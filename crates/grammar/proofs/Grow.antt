@@ -1,5 +1,5 @@
 -- Making a term by any maker, and the machine over tokens alone.
-use Rattle.std.proofs.Common.{◌≡◌, ℕ, suc, List, [], ◌∷◌, ◌++◌, map, length, Some, None, Option, sym, refl, ap, ◌∙◌, arith}
+use Rattle.std.proofs.Common.{◌≡◌, ℕ, suc, List, [], ◌∷◌, map, length, Some, None, Option, sym, refl, ap, ◌∙◌, arith}
 use Rattle.grammar.specs.Tokens.{Tok}
 use Rattle.theory.specs.Syntax.{Ty, Term}
 use Rattle.grammar.specs.Reader.{Maker, Bracket, Turn, go, done, stop, turn}

@@ -1,10 +1,10 @@
 -- With rows enough, the maker of tables lays a term's rows.
-use Rattle.std.proofs.Common.{◌≡◌, ℕ, suc, ◌+◌, ◌<◌, ◌≤◌, Bool, true, false, cond, ltb, List, [], ◌∷◌, ◌++◌, map, length, Some, None, Option, sym, refl, ap, ◌∙◌, subst, arith, ltb-false, ltb-true, lt-ltb}
+use Rattle.std.proofs.Common.{◌≡◌, ℕ, ◌≤◌, Bool, true, false, cond, ltb, List, [], ◌∷◌, ◌++◌, map, length, Some, None, Option, sym, refl, ap, ◌∙◌, subst, arith, ltb-true, lt-ltb}
 use Rattle.std.proofs.lemmas.List.{length_push}
 use Rattle.theory.specs.Syntax.{Ty, Term}
 use Rattle.rows.specs.declared.tables.TypeRow.{TypeRow}
 use Rattle.rows.specs.declared.tables.TermRow.{TermRow}
-use Rattle.rows.specs.Forms.{types, parts, shape_kind}
+use Rattle.rows.specs.Forms.{shape_kind}
 use Rattle.grammar.specs.TableMaker.{into_tables, row_made, type_made}
 use Rattle.rows.specs.Rows.{type_row, leaf_row, form_row, row_place}
 use Rattle.grammar.specs.Reader.{Maker}

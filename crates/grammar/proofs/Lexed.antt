@@ -1,5 +1,5 @@
 -- A token's spelling is what the lexer takes it from.
-use Rattle.std.proofs.Common.{◌≡◌, ℕ, zero, suc, ◌+◌, ◌-◌, ◌*◌, ◌^◌, ◌<◌, ◌≤◌, min, Bool, true, false, cond, eqb, leb, List, [], ◌∷◌, ◌++◌, length, get_or, take, drop, Some, None, codes, decimal, Option, sym, refl, ap, ◌∙◌, subst, ⊎_elim, arith, take-append-drop, length-take, ne_eqb, eqb-true, le-leb, leb-true}
+use Rattle.std.proofs.Common.{◌≡◌, ℕ, suc, ◌<◌, ◌≤◌, Bool, true, false, cond, eqb, leb, List, [], ◌∷◌, ◌++◌, length, get_or, take, drop, Some, None, decimal, Option, sym, refl, ap, ◌∙◌, subst, ⊎_elim, arith, take-append-drop, length-take, ne_eqb, eqb-true, le-leb, leb-true}
 use Rattle.std.specs.Int.{IsInRange}
 use Rattle.std.proofs.str.Laws.{order}
 use Rattle.std.proofs.lemmas.List.{take_at, drop_at}
@@ -9,7 +9,7 @@ use Rattle.grammar.specs.declared.bytes.Class.{Class}
 use Rattle.grammar.specs.declared.bytes.Class.TheVariants.{Space, Open, Close, Hash, Digit, Letter, Other}
 use Rattle.grammar.specs.Bytes.{between, class, alike, run, value}
 use Rattle.grammar.specs.Bytes as y
-use Rattle.grammar.specs.Tokens.{Tok, Step, over, took, refused, token, trimmed, begun, numbered, numeral, lawful, lpar, rpar, word, number, name as hash}
+use Rattle.grammar.specs.Tokens.{Tok, Step, over, took, refused, token, begun, numbered, numeral, lawful, lpar, rpar, word, number, name as hash}
 use Rattle.grammar.specs.Runs.{alike_same, alike_apart}
 use Rattle.grammar.specs.Renders.{spelling, Fits}
 

@@ -1,11 +1,10 @@
 -- The numbers of a text that renders a term are at most the highest amount.
-use Rattle.std.proofs.Common.{◌≡◌, ℕ, suc, ◌<◌, ◌≤◌, max, List, [], ◌∷◌, ◌++◌, map, length, sym, refl, ap, ◌∙◌, subst, arith}
+use Rattle.std.proofs.Common.{ℕ, ◌≤◌, List, [], ◌∷◌, ◌++◌, map, subst, arith}
 use Rattle.grammar.specs.Tokens.{Tok, lpar, rpar, word, number, name as hash}
 use Rattle.theory.specs.Syntax.{Term}
 use Rattle.rows.specs.Limits.{top}
-use Rattle.grammar.specs.Words.{word as word_of}
 use Rattle.theory.specs.Lists.{All}
-use Rattle.theory.specs.Folds.{built, most, numbers_in, largest}
+use Rattle.theory.specs.Folds.{most, numbers_in, largest}
 use Rattle.grammar.specs.TermTokens.{joined, toks_type, term_tokens, toks}
 use Rattle.grammar.specs.Renders.{Fits, Written, end, space, token, Renders}
 use Rattle.theory.specs.Induction.{by_forms, fold_built}

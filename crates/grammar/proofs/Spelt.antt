@@ -1,11 +1,11 @@
 -- The tokens of a text, by the lexer and by their spelling; and a reading by its tokens.
-use Rattle.std.proofs.Common.{◌≡◌, ℕ, zero, suc, ◌+◌, ◌<◌, ◌≤◌, Bool, true, false, cond, List, [], ◌∷◌, ◌++◌, length, drop, Some, None, Option, sym, refl, ap, ◌∙◌, subst, arith}
+use Rattle.std.proofs.Common.{◌≡◌, ℕ, zero, suc, ◌<◌, Bool, true, false, cond, List, [], ◌∷◌, ◌++◌, length, drop, Some, sym, refl, ap, ◌∙◌, subst, arith}
 use Rattle.grammar.specs.declared.bytes.Class.TheVariants.{Space}
 use Rattle.grammar.specs.Bytes.{class, alike, run}
 use Rattle.grammar.specs.declared.fault.Fault.{Fault}
 use Rattle.grammar.specs.Tokens.{Tok, Step, over, took, refused, token, trimmed}
 use Rattle.grammar.specs.Runs.{shorter}
-use Rattle.grammar.specs.Reader.{Maker, Bracket, Turn, go, done, stop, turn, Outcome, accepted, refused_at, ended, place, after_turn, after_token, reading}
+use Rattle.grammar.specs.Reader.{Maker, Bracket, Turn, go, done, stop, turn, accepted, refused_at, ended, place, after_turn, after_token, reading}
 use Rattle.grammar.specs.Renders.{spelling, Fits, Written, space}
 use Rattle.grammar.specs.Renders as w
 use Rattle.grammar.proofs.Grow.{nothing, finished, turned, drive}

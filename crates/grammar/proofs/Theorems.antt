@@ -1,5 +1,5 @@
 -- The theorems on texts.
-use Rattle.std.proofs.Common.{◌≡◌, ℕ, suc, ◌+◌, ◌-◌, ◌<◌, ◌≤◌, min, max, Bool, true, false, cond, eqb, ltb, List, [], ◌∷◌, length, Some, None, Option, sym, refl, ap, ◌∙◌, subst, arith, ltb-false, ltb-true, eqb-true}
+use Rattle.std.proofs.Common.{◌≡◌, ℕ, ◌<◌, ◌≤◌, min, max, Bool, true, false, cond, eqb, ltb, List, [], length, Some, sym, refl, ap, ◌∙◌, subst, arith, ltb-false, ltb-true, eqb-true}
 use borrow.Author.Tests.{eqb-false}
 use Rattle.theory.specs.Syntax.{Term}
 use Rattle.theory.specs.Emit.{Tables, emit, empty, rows_of}
@@ -11,9 +11,8 @@ use Rattle.grammar.specs.declared.fault.Fault.TheVariants.{TooLong, NoTypeRow}
 use Rattle.grammar.specs.Reader.{Outcome, accepted, refused_at, read}
 use Rattle.grammar.specs.TableMaker.{into_tables}
 use Rattle.grammar.specs.TermTokens.{toks, depth}
-use Rattle.grammar.specs.Renders.{Renders}
 use Rattle.grammar.specs.Theorems.{outcome_within, Readable, Read, Exactly, ReadsExactly, ReadsOnce}
-use Rattle.grammar.proofs.Grow.{grow, drive}
+use Rattle.grammar.proofs.Grow.{drive}
 use Rattle.grammar.proofs.Driven.{driven}
 use Rattle.grammar.proofs.Spelt.{spells, spells_once}
 use Rattle.grammar.proofs.Any.{read_found, read_made}

@@ -1,10 +1,10 @@
 -- The tight text of a term is a text of it.
-use Rattle.std.proofs.Common.{◌≡◌, ℕ, suc, ◌<◌, ◌≤◌, max, List, [], ◌∷◌, ◌++◌, map, length, codes, decimal, sym, refl, ap, ◌∙◌, subst, subst₂, append_assoc, arith}
+use Rattle.std.proofs.Common.{◌≡◌, ℕ, ◌<◌, ◌≤◌, List, [], ◌∷◌, ◌++◌, map, length, codes, sym, refl, ap, subst₂, append_assoc, arith}
 use Rattle.std.proofs.lemmas.List.{append-nil}
 use Rattle.grammar.specs.declared.bytes.Class.TheVariants.{Digit, Letter}
 use Rattle.grammar.specs.Bytes.{run}
 use Rattle.grammar.specs.Tokens.{Tok, lpar, rpar, word, number, name as hash}
-use Rattle.theory.specs.Syntax.{Ty, nat, Term, num, name}
+use Rattle.theory.specs.Syntax.{Ty, Term}
 use Rattle.rows.specs.Limits.{top}
 use Rattle.rows.specs.declared.forms.Form.{Form}
 use Rattle.rows.specs.declared.forms.Form.TheVariants.{Succ, Ifz, Lam, Ap, Fix, Pair, Fst, Snd, Add, Sub, Mul, Get, Fail, Catch}
@@ -12,11 +12,11 @@ use Rattle.rows.specs.declared.forms.Shape.{Shape}
 use Rattle.rows.specs.declared.forms.Shape.TheVariants.{To, Both}
 use Rattle.grammar.specs.Words.{word as word_of, shape_word}
 use Rattle.theory.specs.Lists.{All}
-use Rattle.theory.specs.Folds.{shaped, built, fold, fold_type, most, numbers_in, largest}
+use Rattle.theory.specs.Folds.{most, numbers_in, largest}
 use Rattle.grammar.specs.Tight.{spaced, bracketed, tight_types, tight_type, tight_terms, tight}
 use Rattle.grammar.specs.TermTokens.{joined, between, type_tokens, toks_type, term_tokens, toks}
 use Rattle.grammar.specs.Theorems.{TightRenders}
-use Rattle.grammar.specs.Renders.{spelling, Fits, Written, space, token, end, Renders}
+use Rattle.grammar.specs.Renders.{Written, space, token, end}
 use Rattle.theory.specs.Induction.{by_shapes, fold_shaped, by_forms, fold_built}
 
 abbrev Clear : List ℕ → Type 0

@@ -1,6 +1,6 @@
 -- Reading, a token at a time, by what the open brackets still want. It is stated over any way of making types and
 -- terms: what is made of them does not decide which tokens may come.
-use Rattle.std.specs.Prelude.{ℕ, zero, suc, ◌+◌, ◌-◌, Bool, true, false, cond, List, [], ◌∷◌, ◌++◌, length, Some, None, codes, Option, nat_lt, slice_index_or}
+use Rattle.std.specs.Prelude.{ℕ, zero, suc, ◌-◌, cond, List, [], ◌∷◌, ◌++◌, length, Some, None, codes, Option, nat_lt, slice_index_or}
 use Rattle.grammar.specs.declared.fault.Fault.{Fault}
 use Rattle.grammar.specs.declared.fault.Fault.TheVariants.{Misplaced, TooDeep, NoTypeRow, NoTermRow}
 use Rattle.grammar.specs.Tokens.{Tok, Step, lpar, rpar, word, number, name, over, took, refused, token, trimmed}

@@ -1,11 +1,11 @@
 -- Laws of runs and tokens, a byte at a time.
-use Rattle.std.specs.Prelude.{◌≡◌, ℕ, suc, ◌+◌, ◌-◌, ◌*◌, ◌<◌, ◌≤◌, min, Bool, true, false, cond, List, [], ◌∷◌, length, take, drop, Some, None, Option, ◌==◌, ◌≢◌, slice_index, refl}
-use Rattle.std.proofs.Common.{sym, ap, subst, ◌∙◌, arith, length-drop, eq-eqb, ne_eqb}
+use Rattle.std.specs.Prelude.{◌≡◌, ℕ, suc, ◌+◌, ◌-◌, ◌*◌, ◌<◌, ◌≤◌, min, Bool, true, false, cond, List, [], ◌∷◌, length, take, drop, Some, None, ◌==◌, ◌≢◌, slice_index, refl}
+use Rattle.std.proofs.Common.{sym, ap, ◌∙◌, arith, length-drop, eq-eqb, ne_eqb}
 use Rattle.std.proofs.lemmas.List.{take_rest}
 use Rattle.grammar.specs.declared.bytes.Class.{Class}
 use Rattle.grammar.specs.declared.bytes.Class.TheVariants.{Space, Open, Close, Hash, Digit, Letter, Other}
 use Rattle.grammar.specs.Bytes.{class, number, alike, run, value}
-use Rattle.grammar.specs.Tokens.{Tok, Step, over, took, refused, token, trimmed, begun, numbered, numeral, lawful, number as numeral_token, name}
+use Rattle.grammar.specs.Tokens.{Tok, Step, took, token, trimmed, begun, numbered, numeral, lawful, number as numeral_token, name}
 
 -- what `[first, rest @ ..]` calls the rest
 abbrev pub rest : {X : Type 0} → List X → List X

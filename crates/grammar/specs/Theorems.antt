@@ -1,5 +1,5 @@
 -- What reading a text gives, in terms of the term that the text renders.
-use Rattle.std.specs.Prelude.{◌≡◌, ℕ, ◌≤◌, min, cond, List, [], ◌∷◌, length, ◌==◌, nat_lt}
+use Rattle.std.specs.Prelude.{◌≡◌, ℕ, ◌≤◌, min, cond, List, length, ◌==◌, nat_lt}
 use Rattle.theory.specs.Syntax.{Term}
 use Rattle.theory.specs.Folds.{largest}
 use Rattle.theory.specs.Emit.{Tables, empty, rows_of}

@@ -1,6 +1,6 @@
 -- The rows of a term stand for it and keep the laws of tables.
-use Rattle.std.proofs.Common.{◌≡◌, ◌<◌, ◌≤◌, length, arith}
-use Rattle.theory.specs.Emit.{emit, empty, rows_of}
+use Rattle.std.proofs.Common.{arith}
+use Rattle.theory.specs.Emit.{empty}
 use Rattle.theory.specs.Theorems.{RowsStand, RowsLawful}
 use Rattle.theory.proofs.Standing as standing
 use Rattle.theory.proofs.Lawful.{rows_kept, types_some}

@@ -1,5 +1,5 @@
 -- Every row of a term but the last is a part exactly once.
-use Rattle.std.proofs.Common.{◌≡◌, ℕ, suc, ◌+◌, ◌<◌, ◌≤◌, Bool, true, false, cond, eqb, ltb, ◌⊎◌, List, [], ◌∷◌, ◌++◌, map, length, sym, refl, ap, ◌∙◌, subst, ⊎_elim, arith, eq-eqb, ne_eqb}
+use Rattle.std.proofs.Common.{◌≡◌, ℕ, suc, ◌+◌, ◌<◌, ◌≤◌, Bool, true, false, cond, eqb, ltb, List, [], ◌∷◌, ◌++◌, map, length, sym, refl, ap, ◌∙◌, subst, ⊎_elim, arith, eq-eqb, ne_eqb}
 use Rattle.std.proofs.str.Laws.{order}
 use Rattle.std.proofs.lemmas.List.{length_push, length-map}
 use Rattle.theory.specs.Syntax.{Ty, Term}
@@ -7,7 +7,7 @@ use Rattle.rows.specs.declared.forms.Form.{Form}
 use Rattle.rows.specs.declared.forms.Form.TheVariants.{Succ, Ifz, Lam, Ap, Fix, Pair, Fst, Snd, Add, Sub, Mul, Get, Fail, Catch}
 use Rattle.rows.specs.declared.tables.TypeRow.{TypeRow}
 use Rattle.rows.specs.declared.tables.TermRow.{TermRow}
-use Rattle.rows.specs.Forms.{types, parts, shape_kind}
+use Rattle.rows.specs.Forms.{parts, shape_kind}
 use Rattle.rows.specs.Rows.{type_row, leaf_row, form_row, row_place}
 use Rattle.theory.specs.Lists.{All}
 use Rattle.theory.specs.Emit.{Tables, Emits, add_type, add_term, emit_all, type_emits, emit_type, term_emits, emit, empty, rows_of}

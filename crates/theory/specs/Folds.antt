@@ -1,6 +1,6 @@
 -- Types and terms by their bracketed forms, so that what the forms share is said once.
 use Rattle.std.specs.Prelude.{ℕ, max, List, [], ◌∷◌, slice_index_or}
-use Rattle.theory.specs.Syntax.{Ty, nat, to, both, One, succ, fst, snd, get, Op, add, sub, mul, Two, pair, calc, Term, num, name, one, two, ifz, lam, app, fix, fail, catch}
+use Rattle.theory.specs.Syntax.{Ty, nat, to, both, One, succ, fst, snd, get, Op, add, sub, mul, pair, calc, Term, num, name, one, two, ifz, lam, app, fix, fail, catch}
 use Rattle.rows.specs.declared.forms.Form.{Form}
 use Rattle.rows.specs.declared.forms.Form.TheVariants.{Succ, Ifz, Lam, Ap, Fix, Pair, Fst, Snd, Add, Sub, Mul, Get, Fail, Catch}
 use Rattle.rows.specs.declared.forms.Shape.{Shape}

@@ -1,7 +1,7 @@
 -- Induction over types and terms by their bracketed forms, and what a fold makes of a form.
-use Rattle.std.specs.Prelude.{◌≡◌, ℕ, suc, ◌<◌, List, [], ◌∷◌, map, length, slice_index_or, refl}
-use Rattle.std.proofs.Common.{ap, ◌∙◌, arith}
-use Rattle.theory.specs.Syntax.{Ty, nat, to, both, One, succ, fst, snd, get, Op, add, sub, mul, Two, pair, calc, Term, num, name, one, two, ifz, lam, app, fix, fail, catch}
+use Rattle.std.specs.Prelude.{◌≡◌, ℕ, List, [], ◌∷◌, map, length, slice_index_or, refl}
+use Rattle.std.proofs.Common.{ap, arith}
+use Rattle.theory.specs.Syntax.{Ty, nat, to, both, One, succ, fst, snd, get, add, sub, mul, Two, pair, calc, Term, num, name, one, two, ifz, lam, app, fix, fail, catch}
 use Rattle.rows.specs.declared.forms.Form.{Form}
 use Rattle.rows.specs.declared.forms.Form.TheVariants.{Succ, Ifz, Lam, Ap, Fix, Pair, Fst, Snd, Add, Sub, Mul, Get, Fail, Catch}
 use Rattle.rows.specs.declared.forms.Shape.{Shape}

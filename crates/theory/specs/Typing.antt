@@ -1,5 +1,5 @@
 -- Which terms have which type.
-use Rattle.std.specs.Prelude.{◌≡◌, ℕ, ◌≤◌, List, [], ◌∷◌, Some}
+use Rattle.std.specs.Prelude.{◌≡◌, ℕ, ◌≤◌, List, ◌∷◌, Some}
 use Rattle.std.specs.List.{slice_get}
 use Rattle.rows.specs.Limits.{top}
 use Rattle.theory.specs.Syntax.{Ty, nat, to, both, One, succ, fst, snd, get, Op, Two, pair, calc}

@@ -26,7 +26,7 @@ whole t c =
 
 pub returns-in_err-after_frame : goal.returns-in_err-after_frame
 returns-in_err-after_frame t c =
-    c.from-residual.ensures ∙ none_spent _ _ _ c.args.budget (whole t (goal.at.returns-in_err-after_frame t c).After-frame_length) c.in_err-after_frame.ensures
+    c.from_residual.ensures ∙ none_spent _ _ _ c.args.budget (whole t (goal.at.returns-in_err-after_frame t c).After-frame_length) c.in_err-after_frame.ensures
 
 pub returns-in_err-left : goal.returns-in_err-left
 returns-in_err-left t c =
@@ -35,7 +35,7 @@ returns-in_err-left t c =
     let r = get_or c.args.terms.now c.args.p no_row in
     let n = total (type_texts c.args.types.now r) in
     let k = total (part_texts (c.args.types.now, c.args.terms.now) r) in
-    c.from-residual-in_err-left.ensures
+    c.from_residual-in_err-left.ensures
     ∙ none_spent (m + n) k _ c.args.budget (omega arith) (both_spent m n (m + n) c.args.budget _ _ (omega arith) c.in_ok-after_frame.ensures c.in_err-left.ensures)
 
 pub loop-i-init : goal.loop-i-init

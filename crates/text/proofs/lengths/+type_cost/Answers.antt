@@ -18,7 +18,7 @@ whole t c =
 
 pub returns-in_err-after_word : goal.returns-in_err-after_word
 returns-in_err-after_word t c =
-    c.from-residual.ensures ∙ none_spent _ _ _ c.args.budget (whole t (goal.at.returns-in_err-after_word t c).After-shape_word) c.in_err-after_word.ensures
+    c.from_residual.ensures ∙ none_spent _ _ _ c.args.budget (whole t (goal.at.returns-in_err-after_word t c).After-shape_word) c.in_err-after_word.ensures
 
 pub returns-in_err-after_left : goal.returns-in_err-after_left
 returns-in_err-after_left t c =
@@ -26,7 +26,7 @@ returns-in_err-after_left t c =
     let m = length c.shape_word.result.now + 4 in
     let l = length (type_text c.args.types.now (get_or c.args.types.now c.args.p nat_row).left) in
     let r = length (type_text c.args.types.now (get_or c.args.types.now c.args.p nat_row).right) in
-    c.from-residual-in_err-after_left.ensures ∙ none_spent (m + l) r _ c.args.budget (omega arith) (both_spent m l (m + l) c.args.budget _ _ (omega arith) c.in_ok-after_word.ensures c.in_err-after_left.ensures)
+    c.from_residual-in_err-after_left.ensures ∙ none_spent (m + l) r _ c.args.budget (omega arith) (both_spent m l (m + l) c.args.budget _ _ (omega arith) c.in_ok-after_word.ensures c.in_err-after_left.ensures)
 
 pub returns : goal.returns
 returns t c =

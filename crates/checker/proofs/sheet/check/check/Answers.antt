@@ -10,8 +10,8 @@ invariant-of-place c = (passes_so (c.args.types.now, c.args.terms.now) (length c
 pub returns-in_err-judge : goal.returns-in_err-judge
 returns-in_err-judge c =
     let s : Tables = (c.args.types.now, c.args.terms.now) in
-    let e : c.from-residual.result ≡ answer (verdict s (length c.args.sight.now)) = search rules in
-    let t = told s (length c.args.sight.now) c.from-residual.result e in
+    let e : c.from_residual.result ≡ answer (verdict s (length c.args.sight.now)) = search rules in
+    let t = told s (length c.args.sight.now) c.from_residual.result e in
     record { answers = e; filled = search rules; means = t.0; lasts = t.1 }
 
 pub returns : goal.returns

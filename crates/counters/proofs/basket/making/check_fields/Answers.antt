@@ -9,7 +9,7 @@ none = record { article = 0; quantity = 0 }
 
 pub returns-in_err-check_line : goal.returns-in_err-check_line
 returns-in_err-check_line c =
-    let p = err_from_is_err_and c.from-residual.result c.from-residual.ensures.1 in
+    let p = err_from_is_err_and c.from_residual.result c.from_residual.ensures.1 in
     rw (p.1, p.2) (large_here c.args.lines.now c.loop-i.i none c.loop-i-test.true _ c.in_err-check_line.ensures ∙ c.loop-i.invariant)
 
 pub loop-i-preserved : goal.loop-i-preserved
