@@ -1,11 +1,11 @@
 -- Every row but the last is a part once, so every row has one context.
 use Rattle.std.proofs.Common.{◌≡◌, ℕ, zero, suc, ◌+◌, ◌-◌, ◌<◌, ◌≤◌, true, false, cond, eqb, ◌⊎◌, List, [], ◌∷◌, ◌++◌, length, get_or, sym, refl, ap, ◌∙◌, subst, inl, inr, ⊎_elim, arith}
-use Rattle.std.proofs.lemmas.Bool.{eqb-true, eq-eqb, lt-ltb, cond-true, cond-false, cases_Bool, cases_lt, cases_eq}
+use Rattle.std.proofs.lemmas.Bool.{eqb-true, eq-eqb, lt-ltb, cond-true, cond-false, cases_Bool, cases_lt}
 use Rattle.rows.specs.declared.tables.TermRow.{TermRow}
 use Rattle.theory.specs.Emit.{Tables}
 use Rattle.theory.specs.Laws.{parts_of, times, uses, Lawful}
 use Rattle.checker.specs.RowTests.{no_row, arity}
-use Rattle.checker.specs.Contexts.{Context, row_at, names_of, Under, rule, part, Placed}
+use Rattle.checker.specs.Contexts.{Context, row_at, names_of, Under, rule, part}
 use Rattle.checker.specs.Theorems.{RowsPlaced}
 use Rattle.checker.proofs.Counts.{arity_small}
 use Rattle.checker.proofs.Placing.{a_below, b_below, c_below}

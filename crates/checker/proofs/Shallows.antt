@@ -5,7 +5,6 @@ use Rattle.rows.specs.declared.tables.TypeRow.{TypeRow}
 use Rattle.rows.specs.declared.tables.TermRow.{TermRow}
 use Rattle.checker.specs.Lowest.{first_of, lower}
 use Rattle.checker.specs.RowTests.{no_row, arity, PartsPlaced}
-use Rattle.rows.specs.Forms.{kind}
 use Rattle.checker.specs.Depths.{opens, deep_at}
 use Rattle.checker.specs.Types.{bound}
 use Rattle.checker.proofs.Deeps.{deep_step}

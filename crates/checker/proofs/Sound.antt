@@ -6,7 +6,7 @@ use Rattle.rows.specs.Limits.{top}
 use Rattle.rows.specs.Forms.{form_at}
 use Rattle.rows.specs.declared.tables.TypeRow.{TypeRow}
 use Rattle.rows.specs.declared.tables.TermRow.{TermRow}
-use Rattle.theory.specs.Syntax.{Ty, nat, to, both, Op, add, sub, mul, calc, pair, Term, num, name, one, two, lam}
+use Rattle.theory.specs.Syntax.{Ty, nat, to, both, Op, add, sub, mul, calc, pair, Term, num, name, two, lam}
 use Rattle.theory.specs.Folds.{built}
 use Rattle.theory.specs.Stands.{types_from}
 use Rattle.theory.specs.Typing.{◌⊢◌∶◌, ⊢num, ⊢name, ⊢one, ⊢two, ⊢ifz, ⊢lam, ⊢app, ⊢fix, ⊢fail, ⊢catch}

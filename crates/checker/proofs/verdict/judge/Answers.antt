@@ -12,4 +12,4 @@ deepest-requires c =
 pub type_of-requires : goal.type_of-requires
 type_of-requires c =
     let k = kept (c.args.types.now, c.args.terms.now) (answered _ _ c.in_ok-check_rows.ensures) in
-    record { placed = kept_placed (c.args.types.now, c.args.terms.now) k; within = omega (arith, k.some_terms); deep = moved c.args.terms.now _ _ _ _ _ c.new-names.ensures.capacity (ap length c.new-names.ensures.empty) (sym c.in-default.ensures) }
+    record { placed = kept_placed (c.args.types.now, c.args.terms.now) k; within = omega (arith, k.some_terms); deep = moved c.args.terms.now _ _ _ _ _ c.new-names.ensures.capacity (ap length c.new-names.ensures.empty) (sym c.in_default.ensures) }

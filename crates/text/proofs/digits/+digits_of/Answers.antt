@@ -20,8 +20,8 @@ digits_of-at-requires t c = let more = longer c.args.n c.if-n-lt10.false (omega 
 pub bounds-digits-at : goal.bounds-digits-at
 bounds-digits-at t c = let more = longer c.args.n c.if-n-lt10.false (omega arith) in omega (arith, c.requires, c.digits_of-at.ensures.ends)
 
-pub overflow-add-result : goal.overflow-add-result
-overflow-add-result t c =
+pub overflow_add-result : goal.overflow_add-result
+overflow_add-result t c =
     let more = longer c.args.n c.if-n-lt10.false (omega arith) in
     let ends = c.digits_of-at.ensures.ends in
     let room = c.requires in

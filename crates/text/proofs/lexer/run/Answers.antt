@@ -11,8 +11,8 @@ loop-left-preserved c =
     let cut = ap length (split c.loop-left.left.now some) in
     (omega arith, omega arith)
 
-pub returns-in-default : goal.returns-in-default
-returns-in-default c =
+pub returns-in_default : goal.returns-in_default
+returns-in_default c =
     let none = nil_from_length c.loop-left.left.now (omega (arith, ltb-true)) in
     let left = ap (run c.args.k) none in
     record { value = omega arith; bound = omega arith }

@@ -4,8 +4,8 @@ use Rattle.grammar.specs.Runs.{rest}
 use Rattle.text.proofs.Same.{same_more, same_nil}
 use Rattle.text.proofs.words.+is.Goals as goal
 
-pub returns-in-default : goal.returns-in-default
-returns-in-default t c = sym (same_nil c.args.a.now c.args.b.now (omega (arith, ltb-true)))
+pub returns-in_default : goal.returns-in_default
+returns-in_default t c = sym (same_nil c.args.a.now c.args.b.now (omega (arith, ltb-true)))
 
 pub returns-then-x-y : goal.returns-then-x-y
 returns-then-x-y t c =

@@ -7,8 +7,8 @@ use Rattle.text.proofs.writer.put_number.Goals as goal
 pub digits_of-long-requires : goal.digits_of-long-requires
 digits_of-long-requires c = let few = length-decimal-le 10 c.args.n (omega arith) (omega arith) (omega arith) in omega arith
 
-pub slice-bounds-put-end : goal.slice-bounds-put-end
-slice-bounds-put-end c =
+pub slice_bounds-put-end : goal.slice_bounds-put-end
+slice_bounds-put-end c =
     let few = length-decimal-le 10 c.args.n (omega arith) (omega arith) (omega arith) in
     omega (arith, c.digits_of-long.ensures.ends)
 

@@ -4,8 +4,8 @@ use Rattle.checker.specs.Verdicts.{verdict, answer}
 use Rattle.checker.proofs.Meaning.{told, answered, passes_so}
 use Rattle.checker.proofs.sheet.check.check.Goals as goal
 
-pub invariant-of-place : goal.invariant-of-place
-invariant-of-place c = (passes_so (c.args.types.now, c.args.terms.now) (length c.args.sight.now) (answered _ _ c.in_ok-judge.ensures), tt)
+pub invariant_of-place : goal.invariant_of-place
+invariant_of-place c = record { passed = passes_so (c.args.types.now, c.args.terms.now) (length c.args.sight.now) (answered _ _ c.in_ok-judge.ensures) }
 
 pub returns-in_err-judge : goal.returns-in_err-judge
 returns-in_err-judge c =

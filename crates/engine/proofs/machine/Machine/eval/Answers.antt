@@ -184,14 +184,14 @@ returns-in-14 c M =
     let row : t ≡ row_at s r = c.row_at-term.ensures ∙ ap (λ l. get_or l r (leaf_row 0 0)) c.terms.ensures in
     leaf s c.args.frames c.args.cells M (frames_in m.store) (cells_in m.store) m.moves c.requires.ready.tall c.requires.ready.full r e m.mode m.mode (W.Fail) c.requires.at (G.Fail (type_in s r)) (node_is s r t 14 row c.in-14.is) refl refl refl
 
-pub returns-in-default : goal.returns-in-default
-returns-in-default c M =
+pub returns-in_default : goal.returns-in_default
+returns-in_default c M =
     let s = tables c.args.sheet.now in
     let m = c.args.self.now in
     let r = c.args.row in
     let e = c.args.env in
     let t = c.row_at-term.result in
     let row : t ≡ row_at s r = c.row_at-term.ensures ∙ ap (λ l. get_or l r (leaf_row 0 0)) c.terms.ensures in
-    let o = c.open-in-default in
-    form s c.args.frames c.args.cells M (frames_in m.store) (cells_in m.store) m.moves c.requires.ready.tall c.requires.ready.full r e m.mode o.new.self.mode c.requires.at t row (λ (u : TermRow). F.Catch u.b e) (G.Catch (row_at s r).a (row_at s r).b) (node_is s r t t.kind row refl ∙ catch_kind t.kind (type_in s r) (row_at s r).number (row_at s r).a (row_at s r).b (row_at s r).c (omega (arith, c.in-default))) refl refl refl
+    let o = c.open-in_default in
+    form s c.args.frames c.args.cells M (frames_in m.store) (cells_in m.store) m.moves c.requires.ready.tall c.requires.ready.full r e m.mode o.new.self.mode c.requires.at t row (λ (u : TermRow). F.Catch u.b e) (G.Catch (row_at s r).a (row_at s r).b) (node_is s r t t.kind row refl ∙ catch_kind t.kind (type_in s r) (row_at s r).number (row_at s r).a (row_at s r).b (row_at s r).c (omega (arith, c.in_default))) refl refl refl
     (frames_in o.new.self.store) (cells_in o.new.self.store) o.new.self.moves o.result o.ensures.next o.ensures.frames o.ensures.cells o.ensures.moves o.ensures.mode

@@ -80,10 +80,10 @@ returns-in-PairPair c M =
     paired s c.args.frames c.args.cells M cs m.moves c.requires.ready.full c.args.v (F.PairPair p i) (C.Pair p (V.Pair i) (mode_value c.args.v)) (λ k. (v k).0) (λ k. (v k).1) m.mode (frames_in m.store) c.requires.at (top_as (frames_in m.store) c.args.f (F.PairPair p i) c.in-PairPair.is c.requires.top) o.new.self.mode (frames_in o.new.self.store) (cells_in o.new.self.store) o.new.self.moves o.result c.requires.ready.tall
     o.ensures.next o.ensures.frames (o.ensures.cells ∙ ap (λ (w : Value). cond (leb c.args.cells (length cs)) cs (cs ++ (C.Pair p (V.Pair i) w ∷ []))) right) o.ensures.moves o.ensures.mode
 
-pub returns-in-default : goal.returns-in-default
-returns-in-default c M =
+pub returns-in_default : goal.returns-in_default
+returns-in_default c M =
     let s = tables c.args.sheet.now in
     let m = c.args.self.now in
     let cs = cells_in m.store in
-    let v = rests s M cs c.args.v c.args.f c.in-default.not-Catch c.in-default.not-PairFirst c.in-default.not-PairNumber c.in-default.not-PairLam c.in-default.not-PairPair c.requires.value c.requires.other c.requires.suited in
+    let v = rests s M cs c.args.v c.args.f c.in_default.not-Catch c.in_default.not-PairFirst c.in_default.not-PairNumber c.in_default.not-PairLam c.in_default.not-PairPair c.requires.value c.requires.other c.requires.suited in
     stood s c.args.frames c.args.cells M cs m.moves c.requires.ready.full c.args.v c.args.f (λ k. (v k).0) (λ k. (v k).1) m.mode (frames_in m.store) c.requires.at c.requires.top m.mode c.requires.ready.tall

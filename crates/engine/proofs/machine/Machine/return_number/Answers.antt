@@ -76,5 +76,5 @@ returns-in-CalcFirst g c =
 pub returns-in-Ifz : goal.returns-in-Ifz
 returns-in-Ifz g c = record { comes = c.branch-self.ensures (g.C.Counter.table c.args.counter.now); alike = refl }
 
-pub returns-in-default : goal.returns-in-default
-returns-in-default g c = record { comes = c.return_any.ensures (g.C.Counter.table c.args.counter.now); alike = refl }
+pub returns-in_default : goal.returns-in_default
+returns-in_default g c = record { comes = c.return_any.ensures (g.C.Counter.table c.args.counter.now); alike = refl }

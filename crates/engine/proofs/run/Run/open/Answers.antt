@@ -7,8 +7,8 @@ use Rattle.engine.specs.Runs.{limits_of, view}
 use Rattle.engine.proofs.Keeping.{open_kept}
 use Rattle.engine.proofs.run.Run.open.Goals as goal
 
-pub invariant-of-result : goal.invariant-of-result
-invariant-of-result c =
+pub invariant_of-result : goal.invariant_of-result
+invariant_of-result c =
     let k = open_kept c.laws.ensures (tables c.args.sheet) c.is_rule.ensures.lawful c.is_rule.ensures.typed c.new.result c.beginning.result c.terms-rows.result.now c.terms-rows.ensures c.beginning.ensures c.new.ensures.mode c.new.ensures.moves c.new.ensures.frames c.new.ensures.cells in
     let f = ap length c.new.ensures.frames in
     let x = ap length c.new.ensures.cells in

@@ -42,8 +42,8 @@ step-requires g c =
     }
 
 -- no step was made
-pub invariant-of-self : goal.invariant-of-self
-invariant-of-self g c =
+pub invariant_of-self : goal.invariant_of-self
+invariant_of-self g c =
     let r = c.args.self.now in
     let s = tables r.sheet in
     let st = c.if-not-step.ensures.stepped in
@@ -80,8 +80,8 @@ returns-then-not-step g c =
     }
 
 -- a step was made
-pub invariant-of-self-2 : goal.invariant-of-self-2
-invariant-of-self-2 g c =
+pub invariant_of-self-2 : goal.invariant_of-self-2
+invariant_of-self-2 g c =
     let r = c.args.self.now in
     let lasts : r.steps < r.limits.fuel = omega (arith, c.if-self.false, r.spending) in
     let w = c.if-not-step.ensures.stepped in

@@ -7,8 +7,8 @@ bounds-self-self c =
     let t = c.args.self.now in
     omega (arith, c.requires, level t.frames t.height (omega (arith, t.framed, t.low)))
 
-pub invariant-of-self : goal.invariant-of-self
-invariant-of-self c =
+pub invariant_of-self : goal.invariant_of-self
+invariant_of-self c =
     let t = c.args.self.now in
     let l = level t.frames t.height (omega (arith, t.framed, t.low)) in
     (length-set t.frames t.height c.args.f ∙ t.framed, (t.celled, (omega (arith, c.requires, l), (t.few, tt))))
