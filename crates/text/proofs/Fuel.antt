@@ -1,10 +1,10 @@
 -- The reading, a token at a time.
-use Rattle.std.proofs.Common.{◌≡◌, ℕ, zero, suc, ◌-◌, ◌<◌, ◌≤◌, List, [], ◌∷◌, length, sym, refl, ap, ◌∙◌, subst, arith}
+use Rattle.std.proofs.Common.{◌≡◌, ℕ, zero, suc, ◌-◌, ◌<◌, List, length, refl, ap, ◌∙◌, arith}
 use Rattle.grammar.specs.declared.fault.Fault.{Fault}
 use Rattle.grammar.specs.declared.fault.Fault.TheVariants.{Misplaced}
 use Rattle.grammar.specs.Tokens.{Tok, Step, over, took, refused, token, trimmed}
 use Rattle.grammar.specs.Runs.{shorter}
-use Rattle.grammar.specs.Reader.{Maker, Bracket, Turn, go, done, stop, Outcome, accepted, refused_at, turn, ended, place, reading, after_turn, after_token}
+use Rattle.grammar.specs.Reader.{Maker, Bracket, Turn, go, done, stop, Outcome, refused_at, turn, ended, place, reading, after_turn, after_token}
 
 module _ {S X Y : Type 0} (m : Maker S X Y) (room long : ℕ) where
   abbrev On : Type 0

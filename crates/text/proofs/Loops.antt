@@ -1,11 +1,10 @@
 -- What the reading keeps from token to token.
-use Rattle.std.proofs.Common.{◌≡◌, ℕ, suc, ◌+◌, ◌-◌, ◌<◌, ◌≤◌, List, length, sym, refl, ap, ◌∙◌, subst, arith}
+use Rattle.std.proofs.Common.{◌≡◌, ℕ, ◌≤◌, List, length}
 use Rattle.rows.specs.declared.stack.Stack.{Stack}
-use Rattle.rows.specs.Views.{room}
 use Rattle.rows.specs.declared.tables.TypeRow.{TypeRow}
 use Rattle.rows.specs.declared.tables.TermRow.{TermRow}
 use Rattle.theory.specs.Emit.{Tables}
-use Rattle.grammar.specs.Reader.{Bracket, Outcome, reading}
+use Rattle.grammar.specs.Reader.{Bracket, reading}
 use Rattle.grammar.specs.TableMaker.{into_tables}
 use Rattle.text.specs.declared.opens.OpenForm.{OpenForm}
 use Rattle.text.specs.declared.opens.Counts.{Counts}

@@ -1,5 +1,5 @@
 -- Comparing words, a byte at a time.
-use Rattle.std.proofs.Common.{◌≡◌, ℕ, suc, ◌-◌, ◌<◌, ◌≤◌, Bool, true, false, cond, eqb, List, [], ◌∷◌, length, get_or, sym, refl, ap, ◌∙◌, arith}
+use Rattle.std.proofs.Common.{◌≡◌, ℕ, ◌<◌, false, cond, eqb, List, [], ◌∷◌, length, get_or, sym, refl, ap, ◌∙◌, arith}
 use lib.Dec.{eqb-suc-zero}
 use Rattle.std.proofs.lemmas.List.{take_rest}
 use Rattle.grammar.specs.Words.{same}

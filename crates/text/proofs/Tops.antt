@@ -1,5 +1,5 @@
 -- Turns by the bracket on top.
-use Rattle.std.proofs.Common.{◌≡◌, ℕ, ◌<◌, ◌≤◌, Bool, true, false, cond, ltb, List, [], ◌∷◌, ◌++◌, map, length, drop, set, Some, None, Option, sym, refl, ap, ◌∙◌, subst, arith}
+use Rattle.std.proofs.Common.{◌≡◌, ℕ, Bool, true, false, cond, ltb, List, [], ◌∷◌, map, length, drop, set, Some, None, sym, refl, ap, ◌∙◌, subst, arith}
 use lib.ListN.{length-map}
 use Rattle.std.specs.List.{slice_get}
 use Rattle.theory.specs.Emit.{Tables}
@@ -9,9 +9,7 @@ use Rattle.grammar.specs.Reader as m
 use Rattle.grammar.specs.Reader.{Bracket, wanted}
 use Rattle.text.specs.declared.opens.OpenForm.{OpenForm}
 use Rattle.text.specs.declared.opens.Turn.TheVariants as t
-use Rattle.rows.specs.declared.tables.TypeRow.{TypeRow}
-use Rattle.rows.specs.declared.tables.TermRow.{TermRow}
-use Rattle.text.specs.Brackets.{bracket, brackets, with_part, with_type, Meets}
+use Rattle.text.specs.Brackets.{bracket, with_part, with_type, Meets}
 
 -- what looking at the top of a list says of the list
 pub head_none : {X : Type 0} (xs : List X) → None ≡ slice_get xs 0 → xs ≡ []

@@ -1,5 +1,5 @@
 -- The tables after a whole reading.
-use Rattle.std.proofs.Common.{◌≡◌, ℕ, zero, suc, ◌+◌, ◌-◌, ◌<◌, ◌≤◌, min, cond, eqb, List, [], ◌∷◌, ◌++◌, map, length, take, set, Ok, Err, Result, sym, refl, ap, ◌∙◌, subst, arith, length-append, length-set, length-take-le, le-ltb, ne_eqb}
+use Rattle.std.proofs.Common.{◌≡◌, ℕ, zero, suc, ◌<◌, ◌≤◌, min, cond, eqb, List, [], ◌∷◌, ◌++◌, map, length, take, set, Ok, Err, Result, sym, refl, ap, ◌∙◌, subst, arith, length-append, length-set, length-take-le, le-ltb, ne_eqb}
 use lib.Seq.{take-append-le}
 use Rattle.rows.specs.declared.stack.Stack.{Stack}
 use Rattle.rows.specs.declared.tables.TypeRow.{TypeRow}

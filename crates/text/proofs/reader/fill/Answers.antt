@@ -1,4 +1,4 @@
-use Rattle.std.proofs.Common.{◌≡◌, ℕ, ◌-◌, ◌≤◌, min, List, length, sym, ap, ◌∙◌, subst, arith, length-set}
+use Rattle.std.proofs.Common.{◌≡◌, ℕ, ◌-◌, min, length, sym, subst, arith, length-set}
 use Rattle.rows.specs.Rows.{nat_row}
 use Rattle.theory.specs.Emit.{Tables}
 use Rattle.grammar.specs.Reader.{Outcome}

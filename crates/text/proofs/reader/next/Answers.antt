@@ -1,4 +1,4 @@
-use Rattle.std.proofs.Common.{◌≡◌, ℕ, suc, ◌-◌, List, length, Err, sym, refl, ap, ◌∙◌, subst, arith}
+use Rattle.std.proofs.Common.{◌≡◌, suc, ◌-◌, length, Err, sym, ap, ◌∙◌, subst, arith}
 use Rattle.grammar.specs.Tokens.{token, took, trimmed}
 use Rattle.text.specs.Tokens.{tok}
 use Rattle.grammar.specs.Runs.{shorter}

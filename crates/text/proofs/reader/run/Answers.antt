@@ -1,6 +1,5 @@
 use Rattle.std.proofs.Common.{length, sym, refl, ◌∙◌, subst, arith}
 use Rattle.text.specs.Brackets.{rows_of, Answers, left}
-use Rattle.text.proofs.Loops.{Sofar}
 use Rattle.text.proofs.reader.run.Goals as goal
 
 pub loop-after-init : goal.loop-after-init

@@ -1,4 +1,4 @@
-use Rattle.std.proofs.Common.{◌≡◌, length, Some, sym, refl, ap, ◌∙◌, subst, arith}
+use Rattle.std.proofs.Common.{length, Some, sym, ap, ◌∙◌, arith}
 use Rattle.rows.specs.Views.{view, room}
 use Rattle.text.specs.Brackets.{rows_of, brackets}
 use Rattle.text.proofs.Closes.{closed_type, closed_term}

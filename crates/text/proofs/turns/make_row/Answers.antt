@@ -1,4 +1,4 @@
-use Rattle.std.proofs.Common.{◌+◌, sym, subst, arith, length-set}
+use Rattle.std.proofs.Common.{sym, subst, arith, length-set}
 use Rattle.text.specs.Brackets.{Meets, brackets}
 use Rattle.text.proofs.Tables.{made_is}
 use Rattle.text.proofs.turns.make_row.Goals as goal

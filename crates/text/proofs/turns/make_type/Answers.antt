@@ -1,4 +1,4 @@
-use Rattle.std.proofs.Common.{◌≡◌, ◌+◌, ◌-◌, length, take, sym, ap, ◌∙◌, subst, arith, length-set}
+use Rattle.std.proofs.Common.{◌≡◌, take, sym, ap, ◌∙◌, subst, arith, length-set}
 use Rattle.rows.specs.Rows.{row_place}
 use Rattle.text.specs.Brackets.{Meets, brackets}
 use Rattle.text.proofs.Tables.{added_is}

@@ -1,4 +1,4 @@
-use Rattle.std.proofs.Common.{length, refl, subst, arith}
+use Rattle.std.proofs.Common.{length, subst}
 use Rattle.text.specs.Tokens.{tok}
 use Rattle.rows.specs.Views.{room}
 use Rattle.grammar.specs.Reader.{meet}

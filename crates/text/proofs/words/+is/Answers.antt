@@ -1,4 +1,4 @@
-use Rattle.std.proofs.Common.{false, cond, eqb, sym, ap, ◌∙◌, arith, ltb-false, ltb-true, eq-eqb}
+use Rattle.std.proofs.Common.{false, cond, sym, ap, ◌∙◌, arith, ltb-false, ltb-true, eq-eqb}
 use Rattle.grammar.specs.Words.{same}
 use Rattle.grammar.specs.Runs.{rest}
 use Rattle.text.proofs.Same.{same_more, same_nil}

@@ -1,4 +1,4 @@
-use Rattle.std.proofs.Common.{ℕ, ◌+◌, [], ◌++◌, get_or, codes, subst, arith}
+use Rattle.std.proofs.Common.{ℕ, [], ◌++◌, get_or, codes, subst, arith}
 use Rattle.rows.specs.Rows.{nat_row}
 use Rattle.text.specs.Writes.{Wrote, type_text}
 use Rattle.text.proofs.Runs.{Writing, begun, onward, ended, fits}
