@@ -1,5 +1,5 @@
 -- What is read keeps the laws of tables, and so the check can refuse it only for its binders and types.
-use Rattle.std.proofs.Common.{◌≡◌, ℕ, Some, ap, subst}
+use Rattle.std.proofs.Common.{ℕ, ap, subst}
 use Rattle.theory.specs.Emit.{Tables}
 use Rattle.theory.specs.Laws.{Lawful}
 use Rattle.grammar.specs.Theorems.{ReadsExactly, Exactly}

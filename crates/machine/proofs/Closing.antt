@@ -2,7 +2,7 @@
 use Rattle.std.proofs.Common.{◌≡◌, ℕ, zero, suc, ◌+◌, ◌-◌, ◌<◌, ◌≤◌, List, [], ◌∷◌, ◌++◌, length, Some, None, Option, sym, refl, ap, ◌∙◌, arith}
 use mathlib.Core.Logic.{ite}
 use native.Mathlib.Decide.{dec_lt}
-use Rattle.theory.specs.Syntax.{Ty, nat, to, both, One, Two, Term, num, name, one, two, ifz, lam, app, fix, fail, catch}
+use Rattle.theory.specs.Syntax.{Ty, nat, Term, num, name, one, two, ifz, lam, app, fix, fail, catch}
 use Rattle.std.specs.List.{slice_get}
 use Rattle.machine.specs.Substitution.{or_else, named, close, inst, Below, AllClosed}
 use Rattle.theory.specs.Typing.{◌⊢◌∶◌, ⊢num, ⊢name, ⊢one, ⊢two, ⊢ifz, ⊢lam, ⊢app, ⊢fix, ⊢fail, ⊢catch}

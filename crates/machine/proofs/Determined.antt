@@ -1,10 +1,7 @@
 -- At most one structural step leads on.
-use Rattle.std.proofs.Common.{◌≡◌, ℕ, zero, suc, ◌+◌, ◌<◌, ◌≤◌, Some, None, Option, sym, refl, ap, ◌∙◌, subst, arith}
-use Rattle.rows.specs.Limits.{top}
-use Rattle.theory.specs.Syntax.{Ty, nat, One, succ, fst, snd, get, Op, Two, pair, calc, Term, num, name, one, two, ifz, lam, app, fix, fail, catch}
-use Rattle.machine.specs.Substitution.{inst}
+use Rattle.std.proofs.Common.{◌≡◌, ℕ, Some, None, Option, refl, subst, arith}
+use Rattle.theory.specs.Syntax.{nat, Term, num, one, two, ifz, app, fail, catch}
 use Rattle.rows.specs.Meanings.{Meaning}
-use Rattle.machine.specs.Steps.{result}
 use Rattle.machine.specs.Structural.{IsValue, num_value, lam_value, pair_value, Reduces, inside_one, inside_first, inside_second, inside_ifz, inside_app, inside_catch, unroll, count, count_over, on_zero, on_above, enter, calculate, calculate_over, answer, no_answer, first_half, second_half, pass, rescue, fail_one, fail_first, fail_second, fail_ifz, fail_app, ReducesIn, nowhere, then_reduces}
 use Rattle.machine.proofs.Lists.{clash}
 

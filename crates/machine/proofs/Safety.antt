@@ -1,16 +1,15 @@
 -- A step keeps a state well typed, and a well typed state is an end or has a step.
-use Rattle.std.proofs.Common.{◌≡◌, ℕ, zero, suc, ◌+◌, ◌-◌, ◌<◌, ◌≤◌, ◌⊎◌, List, [], ◌∷◌, Some, None, Option, sym, refl, ap, ◌∙◌, subst, inl, inr, arith}
+use Rattle.std.proofs.Common.{◌≡◌, ℕ, zero, suc, ◌<◌, ◌≤◌, ◌⊎◌, [], ◌∷◌, Some, None, Option, refl, inl, inr, arith}
 use native.Mathlib.Decide.{dec_lt, dec_le}
 use Rattle.rows.specs.Limits.{top}
-use Rattle.theory.specs.Syntax.{Ty, nat, to, both, One, succ, fst, snd, get, Op, Two, pair, calc, Term, num, name, one, two, ifz, lam, app, fix, fail, catch}
+use Rattle.theory.specs.Syntax.{Ty, nat, to, both, succ, get, Op, calc, Term}
 use Rattle.std.specs.List.{slice_get}
-use Rattle.machine.specs.Substitution.{inst}
 use Rattle.machine.specs.Values.{Value, amount, function, couple, term}
-use Rattle.theory.specs.Typing.{◌⊢◌∶◌, ⊢num, ⊢name, ⊢one, ⊢two, ⊢ifz, ⊢lam, ⊢app, ⊢fix, ⊢fail, ⊢catch, Makes₁, of_succ, of_get, of_fst, of_snd, Makes₂, of_pair, of_calc}
+use Rattle.theory.specs.Typing.{◌⊢◌∶◌, ⊢num, ⊢name, ⊢one, ⊢two, ⊢ifz, ⊢lam, ⊢app, ⊢fix, ⊢fail, ⊢catch, of_succ, of_get, of_fst, of_snd, of_pair, of_calc}
 use Rattle.rows.specs.Meanings.{Meaning, Lawful}
 use Rattle.machine.specs.States.{Frame, in_one, in_first, in_second, in_ifz, in_app, in_catch, Stack, State, ◌▷◌, ◌◁◌, ◌◂}
-use Rattle.machine.specs.Steps.{result, Dropped, one_dropped, first_dropped, second_dropped, ifz_dropped, app_dropped, Step, num_returns, lam_returns, one_opens, two_opens, ifz_opens, app_opens, catch_opens, fix_unrolls, fail_fails, succ_counts, succ_overflows, ifz_zero, ifz_above, app_enters, first_done, pair_made, calc_result, calc_overflows, get_answers, get_misses, fst_takes, snd_takes, catch_passes, catch_catches, frame_drops, Steps, at_start, then_step, Final, number_end, failed_end}
-use Rattle.machine.specs.StateTyping.{Takes, one_takes, first_takes, second_takes, ifz_takes, app_takes, catch_takes, Expects, none_expects, frame_expects, WellTyped, well_▷, well_◁, well_◂}
+use Rattle.machine.specs.Steps.{result, one_dropped, first_dropped, second_dropped, ifz_dropped, app_dropped, Step, num_returns, lam_returns, one_opens, two_opens, ifz_opens, app_opens, catch_opens, fix_unrolls, fail_fails, succ_counts, succ_overflows, ifz_zero, ifz_above, app_enters, first_done, pair_made, calc_result, calc_overflows, get_answers, get_misses, fst_takes, snd_takes, catch_passes, catch_catches, frame_drops, Final, number_end, failed_end}
+use Rattle.machine.specs.StateTyping.{Takes, one_takes, first_takes, second_takes, ifz_takes, app_takes, catch_takes, none_expects, frame_expects, WellTyped, well_▷, well_◁, well_◂}
 use Rattle.machine.proofs.Lists.{clash}
 use Rattle.machine.proofs.Closing.{inst_typed}
 

@@ -1,16 +1,15 @@
 -- The computed step is the step of the rules.
-use Rattle.std.proofs.Common.{◌≡◌, ℕ, zero, suc, ◌+◌, ◌<◌, ◌≤◌, ◌↔◌, List, [], ◌∷◌, Some, None, Option, sym, refl, ap, ◌∙◌, subst, add-one, arith}
+use Rattle.std.proofs.Common.{◌≡◌, ℕ, zero, suc, ◌+◌, ◌<◌, ◌≤◌, [], ◌∷◌, Some, None, Option, sym, refl, ap, ◌∙◌, subst, add-one, arith}
 use mathlib.Core.Logic.{ite, if_pos, if_neg}
 use native.Mathlib.Decide.{dec_le}
 use Rattle.rows.specs.Limits.{top}
-use Rattle.theory.specs.Syntax.{Ty, One, succ, fst, snd, get, Op, Two, pair, calc, Term, num, name, one, two, ifz, lam, app, fix, fail, catch}
-use Rattle.machine.specs.Substitution.{inst}
-use Rattle.machine.specs.Values.{Value, amount, function, couple, term}
+use Rattle.theory.specs.Syntax.{succ, fst, snd, get, Op, pair, calc, num, name, one, two, ifz, lam, app, fix, fail, catch}
+use Rattle.machine.specs.Values.{Value, amount, function, couple}
 use Rattle.rows.specs.Meanings.{Meaning}
 use Rattle.machine.specs.States.{Frame, in_one, in_first, in_second, in_ifz, in_app, in_catch, Stack, State, ◌▷◌, ◌◁◌, ◌◂}
 use Rattle.machine.specs.Steps.{result, Dropped, one_dropped, first_dropped, second_dropped, ifz_dropped, app_dropped, Step, num_returns, lam_returns, one_opens, two_opens, ifz_opens, app_opens, catch_opens, fix_unrolls, fail_fails, succ_counts, succ_overflows, ifz_zero, ifz_above, app_enters, first_done, pair_made, calc_result, calc_overflows, get_answers, get_misses, fst_takes, snd_takes, catch_passes, catch_catches, frame_drops, Steps, at_start, then_step}
 use Rattle.machine.specs.Next.{Taken, limited, answered, returned, failed, next, onward, after}
-use Rattle.machine.proofs.Lists.{clash, came}
+use Rattle.machine.proofs.Lists.{came}
 
 within : (k : Stack) (n : ℕ) → n ≤ top → limited k n ≡ (k ◁ amount n)
 within k n h = if_pos (dec_le n top) h (k ◁ amount n) (k ◂)

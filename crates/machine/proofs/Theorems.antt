@@ -1,11 +1,10 @@
 -- The laws of the machine.
-use Rattle.std.proofs.Common.{◌≡◌, ℕ, zero, suc, ◌⊎◌, [], length, refl, inl, inr, arith}
+use Rattle.std.proofs.Common.{◌≡◌, ℕ, zero, suc, ◌⊎◌, length, refl, inl, inr, arith}
 use Rattle.rows.specs.Meanings.{Meaning}
 use Rattle.theory.specs.Syntax.{Term}
 use Rattle.theory.specs.Typing.{⊢num}
-use Rattle.machine.specs.States.{State}
-use Rattle.machine.specs.Steps.{Step, Final, number_end, failed_end}
-use Rattle.machine.specs.StateTyping.{frame_expects, none_expects, well_◁}
+use Rattle.machine.specs.Steps.{number_end, failed_end}
+use Rattle.machine.specs.StateTyping.{well_◁}
 use Rattle.machine.specs.Structural.{unravel, Reduces}
 use Rattle.machine.specs.Laws.{Laws, AmountsFit, EndsRest}
 use Rattle.machine.proofs.Closing.{typed_below, close_stays, named_at, close_close, close_closed}

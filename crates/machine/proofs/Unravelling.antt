@@ -1,14 +1,14 @@
 -- A machine step of m moves is m structural steps of what it unravels to.
-use Rattle.std.proofs.Common.{◌≡◌, ℕ, zero, suc, ◌+◌, ◌-◌, ◌<◌, ◌≤◌, List, [], ◌∷◌, ◌++◌, length, Some, None, Option, sym, refl, ap, ◌∙◌, subst, subst₂, arith}
+use Rattle.std.proofs.Common.{◌≡◌, ℕ, zero, suc, ◌+◌, ◌-◌, ◌<◌, List, [], ◌∷◌, length, sym, refl, ap, ◌∙◌, subst, subst₂, arith}
 use mathlib.Core.Logic.{ite}
 use native.Mathlib.Decide.{dec_lt}
-use Rattle.theory.specs.Syntax.{Ty, nat, to, both, One, Two, pair, calc, Term, num, name, one, two, ifz, lam, app, fix, fail, catch}
+use Rattle.theory.specs.Syntax.{nat, Term, num, name, one, two, ifz, lam, app, fix, fail, catch}
 use Rattle.std.specs.List.{slice_get}
 use Rattle.machine.specs.Substitution.{or_else, named, close, inst}
 use Rattle.machine.specs.Values.{Value, amount, function, couple, term}
 use Rattle.rows.specs.Meanings.{Meaning}
-use Rattle.machine.specs.States.{Frame, in_one, in_first, in_second, in_ifz, in_app, in_catch, Stack, State, ◌▷◌, ◌◁◌, ◌◂}
-use Rattle.machine.specs.Steps.{result, Dropped, one_dropped, first_dropped, second_dropped, ifz_dropped, app_dropped, Step, num_returns, lam_returns, one_opens, two_opens, ifz_opens, app_opens, catch_opens, fix_unrolls, fail_fails, succ_counts, succ_overflows, ifz_zero, ifz_above, app_enters, first_done, pair_made, calc_result, calc_overflows, get_answers, get_misses, fst_takes, snd_takes, catch_passes, catch_catches, frame_drops, Steps, at_start, then_step}
+use Rattle.machine.specs.States.{Frame, in_one, in_first, in_second, in_ifz, in_app, in_catch, Stack, State}
+use Rattle.machine.specs.Steps.{Dropped, one_dropped, first_dropped, second_dropped, ifz_dropped, app_dropped, Step, num_returns, lam_returns, one_opens, two_opens, ifz_opens, app_opens, catch_opens, fix_unrolls, fail_fails, succ_counts, succ_overflows, ifz_zero, ifz_above, app_enters, first_done, pair_made, calc_result, calc_overflows, get_answers, get_misses, fst_takes, snd_takes, catch_passes, catch_catches, frame_drops, Steps, at_start, then_step}
 use Rattle.machine.specs.Structural.{bare, IsValue, num_value, lam_value, pair_value, fill, refill, unravel, Reduces, inside_one, inside_first, inside_second, inside_ifz, inside_app, inside_catch, unroll, count, count_over, on_zero, on_above, enter, calculate, calculate_over, answer, no_answer, first_half, second_half, pass, rescue, fail_one, fail_first, fail_second, fail_ifz, fail_app, ReducesIn, nowhere, then_reduces}
 
 -- Bare terms put for names.

@@ -3,7 +3,7 @@ use Rattle.std.specs.Prelude.{◌≡◌, ℕ, ◌-◌, ◌≤◌, ◌⊎◌, ◌
 use Rattle.std.specs.List.{slice_get}
 use Rattle.rows.specs.Limits.{top}
 use Rattle.rows.specs.Meanings.{Meaning, Lawful}
-use Rattle.theory.specs.Syntax.{Ty, nat, Term, name}
+use Rattle.theory.specs.Syntax.{Ty, Term, name}
 use Rattle.theory.specs.Typing.{◌⊢◌∶◌}
 use Rattle.machine.specs.Values.{amount}
 use Rattle.machine.specs.Substitution.{or_else, close, Below, AllClosed}

@@ -1,11 +1,11 @@
 -- The machine's step, computed.
 use Rattle.std.proofs.Math.Logic.{ite}
-use Rattle.std.specs.Prelude.{ℕ, zero, suc, ◌+◌, ◌<◌, ◌≤◌, List, [], ◌∷◌, Some, None, Option}
+use Rattle.std.specs.Prelude.{ℕ, zero, suc, ◌+◌, [], ◌∷◌, Some, None, Option}
 use Rattle.std.proofs.Math.Decide.{dec_le}
 use Rattle.rows.specs.Limits.{top}
-use Rattle.theory.specs.Syntax.{Ty, One, succ, fst, snd, get, Op, Two, pair, calc, Term, num, name, one, two, ifz, lam, app, fix, fail, catch}
+use Rattle.theory.specs.Syntax.{succ, fst, snd, get, pair, calc, num, name, one, two, ifz, lam, app, fix, fail, catch}
 use Rattle.machine.specs.Substitution.{inst}
-use Rattle.machine.specs.Values.{Value, amount, function, couple, term}
+use Rattle.machine.specs.Values.{Value, amount, function, couple}
 use Rattle.rows.specs.Meanings.{Meaning}
 use Rattle.machine.specs.States.{Frame, in_one, in_first, in_second, in_ifz, in_app, in_catch, Stack, State, ◌▷◌, ◌◁◌, ◌◂}
 use Rattle.machine.specs.Steps.{result}

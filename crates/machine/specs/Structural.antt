@@ -1,9 +1,9 @@
 -- Structural steps on terms, and unravelling.
-use Rattle.std.specs.Prelude.{◌≡◌, ℕ, suc, ◌+◌, ◌<◌, ◌≤◌, List, [], ◌∷◌, Some, None}
+use Rattle.std.specs.Prelude.{◌≡◌, ℕ, suc, ◌+◌, ◌<◌, ◌≤◌, [], ◌∷◌, Some, None}
 use Rattle.rows.specs.Limits.{top}
-use Rattle.theory.specs.Syntax.{Ty, nat, to, both, One, succ, fst, snd, get, Op, add, sub, mul, Two, pair, calc, Term, num, name, one, two, ifz, lam, app, fix, fail, catch}
+use Rattle.theory.specs.Syntax.{Ty, nat, One, succ, fst, snd, get, Op, Two, pair, calc, Term, num, name, one, two, ifz, lam, app, fix, fail, catch}
 use Rattle.machine.specs.Substitution.{inst}
-use Rattle.machine.specs.Values.{Value, amount, function, couple, term}
+use Rattle.machine.specs.Values.{term}
 use Rattle.rows.specs.Meanings.{Meaning}
 use Rattle.machine.specs.States.{Frame, in_one, in_first, in_second, in_ifz, in_app, in_catch, Stack, State, ◌▷◌, ◌◁◌, ◌◂}
 use Rattle.machine.specs.Steps.{result}

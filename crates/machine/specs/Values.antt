@@ -1,6 +1,6 @@
 -- Values: numbers, functions and pairs of values.
 use Rattle.std.specs.Prelude.{ℕ}
-use Rattle.theory.specs.Syntax.{Ty, Two, pair, Term, num, two, lam}
+use Rattle.theory.specs.Syntax.{Ty, pair, Term, num, two, lam}
 
 -- A value is a number, a function or a pair of values; a function and a pair have their type beside them.
 pub data Value : Type 0 where

@@ -1,4 +1,4 @@
-use Rattle.std.proofs.Common.{◌≡◌, [], sym, refl, subst, arith}
+use Rattle.std.proofs.Common.{◌≡◌, sym, refl, subst, arith}
 use Rattle.std.proofs.lemmas.List.{nil_from_length}
 use Rattle.listing.specs.Lines.{chomped}
 use Rattle.listing.proofs.rule_in.Goals as goal
