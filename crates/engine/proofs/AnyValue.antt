@@ -1,10 +1,9 @@
 -- Values of every kind, returned to a frame.
-use Rattle.std.proofs.Common.{◌≡◌, ℕ, suc, Bool, true, false, List, [], ◌∷◌, ◌++◌, map, length, Some, sym, refl, ap, ◌∙◌, arith}
+use Rattle.std.proofs.Common.{◌≡◌, ℕ, true, false, List, [], ◌∷◌, ◌++◌, map, length, Some, refl, arith}
 use Rattle.rows.specs.Meanings.{Meaning}
 use Rattle.theory.specs.Emit.{Tables}
 use Rattle.environments.specs.Nodes.{nodes_of}
 use Rattle.environments.specs.Values as EV
-use Rattle.environments.specs.Cells as EC
 use Rattle.environments.specs.Modes as EM
 use Rattle.environments.specs.States.{State, enter, step}
 use Rattle.environments.specs.Runs.{adds, makes}

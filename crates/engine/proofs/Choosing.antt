@@ -1,17 +1,14 @@
 -- What the acts of the machine come to, as choices.
-use Rattle.std.proofs.Common.{◌≡◌, ℕ, zero, suc, ◌+◌, ◌<◌, ◌≤◌, Bool, true, false, cond, leb, List, [], ◌∷◌, ◌++◌, map, length, get_or, Some, None, Option, sym, refl, ap, ◌∙◌, subst, add-one, arith}
+use Rattle.std.proofs.Common.{◌≡◌, ℕ, suc, ◌+◌, ◌≤◌, Bool, true, false, cond, leb, List, [], ◌∷◌, ◌++◌, map, length, Some, None, sym, refl, ap, ◌∙◌, subst, add-one, arith}
 use Rattle.std.proofs.lemmas.Bool.{leb-true, leb-false}
-use Rattle.std.proofs.lemmas.List.{length-map, map-append}
+use Rattle.std.proofs.lemmas.List.{length-map}
 use Rattle.rows.specs.Meanings.{Meaning}
 use Rattle.theory.specs.Emit.{Tables}
-use Rattle.runs.specs.Standings.{Status}
-use Rattle.environments.specs.Nodes.{Node, nodes_of}
+use Rattle.environments.specs.Nodes.{nodes_of}
 use Rattle.environments.specs.Values as EV
-use Rattle.environments.specs.Frames as EF
-use Rattle.environments.specs.Cells as EC
 use Rattle.environments.specs.Modes as EM
 use Rattle.environments.specs.States.{State, Taken, enter, step}
-use Rattle.environments.specs.Runs.{adds, makes, ended_or}
+use Rattle.environments.specs.Runs.{adds, makes}
 use Rattle.engine.specs.declared.state.Frame.{Frame}
 use Rattle.engine.specs.declared.state.Cell.{Cell}
 use Rattle.engine.specs.declared.state.Mode.{Mode}
@@ -20,7 +17,7 @@ use Rattle.engine.specs.declared.state.Next.{Next}
 use Rattle.engine.specs.declared.state.Next.TheVariants as N
 use Rattle.engine.specs.View.{view_frame, view_cell, mode_of}
 use Rattle.engine.specs.Stores.{top_of, rest_of}
-use Rattle.engine.specs.Choices.{state_at, Open, Went, Blocked, too_tall, too_full, Stayed, Chose}
+use Rattle.engine.specs.Choices.{state_at, Open, Went, Blocked, too_tall, too_full, Chose}
 
 pub top_some : (fs : List Frame) (f : Frame) → Some f ≡ top_of fs → fs ≡ f ∷ rest_of fs
 top_some [] f e = absurd (let z : ◌≡◌ {A = ℕ} 0 1 = cc in omega arith)

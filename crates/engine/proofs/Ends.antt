@@ -9,7 +9,7 @@ use Rattle.engine.specs.declared.state.Mode.TheVariants as W
 use Rattle.engine.specs.declared.state.Next.TheVariants as N
 use Rattle.engine.specs.View.{view_frame, mode_of}
 use Rattle.engine.specs.Stores.{top_of}
-use Rattle.engine.specs.Choices.{state_at, Blocked, at_number, at_failure, Chose}
+use Rattle.engine.specs.Choices.{state_at, at_number, at_failure, Chose}
 use Rattle.engine.proofs.Choosing.{top_none}
 use Rattle.engine.proofs.Choosing as go
 

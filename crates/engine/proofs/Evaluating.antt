@@ -8,7 +8,7 @@ use Rattle.rows.specs.declared.forms.Form.TheVariants as R
 use Rattle.rows.specs.Forms.{forms, form_at}
 use Rattle.rows.specs.Rows.{leaf_row}
 use Rattle.rows.specs.Meanings.{Meaning}
-use Rattle.theory.specs.Syntax.{Ty, nat}
+use Rattle.theory.specs.Syntax.{Ty}
 use Rattle.theory.specs.Emit.{Tables}
 use Rattle.theory.specs.Stands.{types_from}
 use Rattle.environments.specs.Nodes.{Node, node_in, blank_node, form_node, node_of, nodes_of}
@@ -16,8 +16,8 @@ use Rattle.environments.specs.Nodes as G
 use Rattle.environments.specs.Closures as D
 use Rattle.environments.specs.Cells as EC
 use Rattle.environments.specs.Modes as EM
-use Rattle.environments.specs.States.{State, Taken, enter, evaluated, step}
-use Rattle.environments.specs.Runs.{adds, makes, opens, unrolls}
+use Rattle.environments.specs.States.{enter, evaluated, step}
+use Rattle.environments.specs.Runs.{opens, unrolls}
 use Rattle.engine.specs.declared.state.Frame.{Frame}
 use Rattle.engine.specs.declared.state.Cell.{Cell}
 use Rattle.engine.specs.declared.state.Cell.TheVariants as C

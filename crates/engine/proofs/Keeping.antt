@@ -15,9 +15,9 @@ use Rattle.runs.specs.Standings as R
 use Rattle.runs.specs.Standings.{Limits, going}
 use Rattle.runs.specs.Advances as A
 use Rattle.environments.specs.Nodes.{nodes_of}
-use Rattle.environments.specs.NodeTerms.{terms_of, node_term_at}
+use Rattle.environments.specs.NodeTerms.{terms_of}
 use Rattle.environments.specs.Modes as EM
-use Rattle.environments.specs.States.{State, Taken, step, start, enter}
+use Rattle.environments.specs.States.{State, step, start, enter}
 use Rattle.environments.specs.Stands.{stands}
 use Rattle.environments.specs.Fits.{fits}
 use Rattle.environments.specs.Runs.{Standing, standing, status, opening, onto, once}
@@ -26,10 +26,10 @@ use Rattle.engine.specs.declared.state.Mode.{Mode}
 use Rattle.engine.specs.declared.machine.Machine.{Machine as Engine}
 use Rattle.engine.specs.View.{view_frame, view_cell, mode_of}
 use Rattle.engine.specs.Stores.{frames_in, cells_in, entered}
-use Rattle.engine.specs.Choices.{state_at, state_of, Went, Stayed}
-use Rattle.engine.specs.Runs.{standing_of, Moved, Rested}
+use Rattle.engine.specs.Choices.{state_of, Went, Stayed}
+use Rattle.engine.specs.Runs.{standing_of, Moved}
 use Rattle.engine.proofs.Returning.{enter_stands}
-use Rattle.engine.proofs.Under.{went_going, blocked_halts, spent_halts, once_goes, once_stays, moved}
+use Rattle.engine.proofs.Under.{went_going, blocked_halts, once_goes, once_stays, moved}
 
 module _ (laws : Laws) (s : Tables) (law : Tables.Lawful s) where
   -- the state fits, and there is a typing of what it stands for

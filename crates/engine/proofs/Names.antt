@@ -1,5 +1,5 @@
 -- Looking names up, turn by turn.
-use Rattle.std.proofs.Common.{◌≡◌, ℕ, zero, suc, ◌-◌, ◌<◌, ◌≤◌, List, [], sym, refl, ap, ◌∙◌, arith}
+use Rattle.std.proofs.Common.{◌≡◌, ℕ, zero, suc, ◌-◌, ◌<◌, ◌≤◌, List, [], refl, ap, arith}
 use Rattle.engine.specs.declared.state.Cell.{Cell}
 use Rattle.engine.specs.declared.state.Mode.TheVariants as M
 use Rattle.engine.specs.Stores.{nearest_in, outward_in, find_in}

@@ -1,5 +1,5 @@
 -- The step at a value or a failure, by the top frame.
-use Rattle.std.proofs.Common.{◌≡◌, ℕ, zero, suc, ◌+◌, ◌-◌, ◌<◌, ◌≤◌, Bool, true, false, cond, eqb, leb, List, [], ◌∷◌, ◌++◌, map, length, get_or, Some, None, Option, sym, refl, ap, ◌∙◌, subst, arith, eqb-true}
+use Rattle.std.proofs.Common.{◌≡◌, ℕ, zero, suc, ◌+◌, ◌≤◌, Bool, true, false, cond, eqb, leb, List, [], ◌∷◌, ◌++◌, map, length, get_or, Some, None, Option, sym, refl, ap, ◌∙◌, subst, arith, eqb-true}
 use Rattle.std.proofs.lemmas.List.{length-map, map-append}
 use Rattle.rows.specs.Limits.{top}
 use Rattle.rows.specs.declared.forms.Form.{Form}
@@ -14,12 +14,10 @@ use Rattle.environments.specs.Closures.{Closed}
 use Rattle.environments.specs.Closures as D
 use Rattle.environments.specs.Values as EV
 use Rattle.environments.specs.Cells as EC
-use Rattle.environments.specs.Frames as EF
 use Rattle.environments.specs.Modes as EM
 use Rattle.environments.specs.States.{State, Taken, taken, blank_cell, cell_at, bound_of_cell, next_of_cell, nearest, outward, find, resolved, enter, limited, answered, left_in, right_in, binding, step}
-use Rattle.environments.specs.Runs.{adds, makes, ended_or}
+use Rattle.environments.specs.Runs.{adds, makes}
 use Rattle.engine.specs.declared.state.Frame.{Frame}
-use Rattle.engine.specs.declared.state.Frame.TheVariants as F
 use Rattle.engine.specs.declared.state.Value.{Value}
 use Rattle.engine.specs.declared.state.Value.TheVariants as V
 use Rattle.engine.specs.declared.state.Cell.{Cell}
@@ -29,7 +27,7 @@ use Rattle.engine.specs.declared.state.Mode.TheVariants as W
 use Rattle.engine.specs.declared.state.Next.{Next}
 use Rattle.engine.specs.declared.state.Next.TheVariants as N
 use Rattle.engine.specs.View.{view_frame, view_cell, mode_of, value_of, row_at, type_in}
-use Rattle.engine.specs.Values.{limited_to, answered_by, value_mode, mode_value, left_of, right_of, bound_to}
+use Rattle.engine.specs.Values.{limited_to, answered_by, value_mode, left_of, right_of, bound_to}
 use Rattle.engine.specs.Stores.{top_of, rest_of, no_cell, nearest_in, outward_in, find_in, entered, bound_in, next_in, to_second, top_second}
 use Rattle.engine.specs.Choices.{state_at, Open, Chose}
 use Rattle.engine.proofs.Choosing.{top_some, top_none}

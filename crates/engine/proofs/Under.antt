@@ -1,26 +1,20 @@
 -- Steps under limits: what was chosen is what a run of the environment machine does once more.
-use Rattle.std.proofs.Common.{◌≡◌, ℕ, suc, ◌+◌, ◌-◌, ◌<◌, ◌≤◌, Bool, true, false, cond, ltb, leb, ◌≢◌, List, [], ◌∷◌, map, length, Some, None, Option, sym, refl, ap, ◌∙◌, subst, arith, le-ltb}
+use Rattle.std.proofs.Common.{◌≡◌, ℕ, ◌+◌, ◌<◌, cond, ◌≢◌, [], length, Some, None, Option, sym, refl, ap, ◌∙◌, arith, le-ltb}
 use borrow.Author.Tests.{lt-leb}
 use Rattle.rows.specs.Meanings.{Meaning}
-use Rattle.rows.specs.Meanings as Meanings
 use Rattle.theory.specs.Emit.{Tables}
-use Rattle.machine.specs.StateTyping.{WellTyped}
 use Rattle.machine.specs.Next as Next
 use Rattle.machine.specs.Laws as Machine
 use Rattle.runs.specs.Standings as R
 use Rattle.runs.specs.Standings.{Limits, Status, number, failed, spent, tall, full, going}
 use Rattle.runs.specs.Advances as A
-use Rattle.runs.specs.Calls.{Running, now_at}
 use Rattle.environments.specs.Nodes.{nodes_of}
-use Rattle.environments.specs.NodeTerms.{terms_of, nodes_lawful}
 use Rattle.environments.specs.Values as EV
 use Rattle.environments.specs.Modes as EM
 use Rattle.environments.specs.States.{State, Taken, step}
-use Rattle.environments.specs.Stands.{stands}
-use Rattle.environments.specs.Fits.{fits}
-use Rattle.environments.specs.Runs.{Standing, standing, adds, makes, held, ended_or, status, onto, if-going, once}
-use Rattle.environments.specs.Laws.{Laws, KeptFor}
-use Rattle.engine.specs.Choices.{Open, Went, Blocked, at_number, at_failure, too_tall, too_full, Stayed}
+use Rattle.environments.specs.Runs.{Standing, adds, makes, held, ended_or, status, onto, if-going, once}
+use Rattle.environments.specs.Laws.{Laws}
+use Rattle.engine.specs.Choices.{Went, Blocked, at_number, at_failure, too_tall, too_full}
 use Rattle.engine.specs.Runs.{Moved}
 
 clash : {P : Type 0} → ◌≡◌ {A = ℕ} 0 1 → P

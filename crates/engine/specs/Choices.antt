@@ -1,12 +1,10 @@
 -- What a choice of the machine comes to: the step of the environment machine, or none where the limits do not allow it.
-use Rattle.std.specs.Prelude.{◌≡◌, ℕ, ◌+◌, ◌<◌, ◌≤◌, Bool, true, false, List, [], ◌∷◌, map, length, Some, None, Option}
+use Rattle.std.specs.Prelude.{◌≡◌, ℕ, ◌+◌, ◌<◌, ◌≤◌, Bool, true, false, List, [], map, length, Some, None, Option}
 use Rattle.rows.specs.Meanings.{Meaning}
 use Rattle.theory.specs.Emit.{Tables}
 use Rattle.runs.specs.Standings.{Status}
 use Rattle.environments.specs.Nodes.{nodes_of}
 use Rattle.environments.specs.Values as EV
-use Rattle.environments.specs.Frames as EF
-use Rattle.environments.specs.Cells as EC
 use Rattle.environments.specs.Modes as EM
 use Rattle.environments.specs.States.{State, Taken, enter, step}
 use Rattle.environments.specs.Runs.{adds, makes, ended_or}
@@ -19,7 +17,7 @@ use Rattle.engine.specs.declared.state.Next.{Next}
 use Rattle.engine.specs.declared.state.Next.TheVariants as N
 use Rattle.engine.specs.declared.machine.Machine.{Machine}
 use Rattle.engine.specs.View.{view_frame, view_cell, mode_of}
-use Rattle.engine.specs.Stores.{frames_in, cells_in, top_of}
+use Rattle.engine.specs.Stores.{frames_in, cells_in}
 
 -- the state of the environment machine, of a mode with frames and cells
 abbrev pub state_at : Tables → EM.Mode → List Frame → List Cell → State

@@ -7,14 +7,14 @@ use Rattle.rows.specs.declared.forms.Form.{Form}
 use Rattle.rows.specs.declared.forms.Form.TheVariants.{Succ, Ifz, Lam, Ap, Fix, Pair, Fst, Snd, Add, Sub, Mul, Get}
 use Rattle.rows.specs.declared.forms.Form.TheVariants.{Fail, Catch}
 use Rattle.rows.specs.declared.tables.TermRow.{TermRow}
-use Rattle.rows.specs.Forms.{kind, parts, form_at}
+use Rattle.rows.specs.Forms.{parts, form_at}
 use Rattle.rows.specs.Rows.{leaf_row, form_row}
 use Rattle.theory.specs.Syntax.{Ty, nat, Term, num, name}
 use Rattle.theory.specs.Folds as T
 use Rattle.theory.specs.Emit.{Tables}
 use Rattle.theory.specs.Stands.{types_from, term_of_row, terms_from}
 use Rattle.theory.specs.Laws.{Below, Row, leaf, form, Lawful}
-use Rattle.environments.specs.Folds.{grown, built, lawful}
+use Rattle.environments.specs.Folds.{grown, lawful}
 use Rattle.environments.specs.Nodes.{Number, Name, form_node, node_of, blank_node, nodes_of}
 use Rattle.environments.specs.NodeTerms.{node_term_at, term_of, node_is_fit, terms_of}
 use Rattle.environments.specs.Laws.{NodesOf}

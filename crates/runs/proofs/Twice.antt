@@ -5,7 +5,7 @@ use Rattle.theory.specs.Syntax.{nat, Term}
 use Rattle.theory.specs.Typing.{◌⊢◌∶◌}
 use Rattle.rows.specs.Meanings.{Meaning, Lawful}
 use Rattle.machine.specs.Steps.{Final, number_end, failed_end}
-use Rattle.runs.specs.Standings.{Limits, Standing, Status, number, failed, spent, tall, full, going, status, height}
+use Rattle.runs.specs.Standings.{Limits, Standing, Status, number, failed, spent, tall, full, going, height}
 use Rattle.runs.specs.Calls.{start, Call, Report, report, Answer, answers, after, all_counts, AllMean, Came}
 use Rattle.runs.specs.Promise.{Going, Right, Fewest, Kept, Ended, NoSmaller, Same, Promise}
 use Rattle.runs.specs.Promise.{WholeRun, WholeRunFrom, CallsComputed, SecondRun, HaltsInTime, Determined}

@@ -1,4 +1,4 @@
-use Rattle.std.proofs.Common.{sym, refl, ap, ◌∙◌, Bor}
+use Rattle.std.proofs.Common.{sym, refl, ap, ◌∙◌, MutBor}
 use Rattle.counters.specs.declared.basket.Basket.{Basket}
 use Rattle.counters.specs.declared.prices.Prices.{Prices}
 use Rattle.counters.specs.declared.split.Split.{Split}
@@ -16,7 +16,7 @@ returns c =
     let question = c.args.question in (
       ap (λ o. earlier o (prices_outcome c.args.rows.now)) (sym lines.result) ∙ sym rows.result,
       c.answer.ensures.entry
-          ∙ ap (λ (s : Split (Bor Basket) (Bor Prices)). split_table s.point (of_basket s.first.now) (of_prices s.second.now) question) c.new-split.ensures
+          ∙ ap (λ (s : Split (MutBor Basket) (MutBor Prices)). split_table s.point (of_basket s.first.now) (of_prices s.second.now) question) c.new-split.ensures
           ∙ ap (λ t. split_table 10000 t (of_prices c.fill-2.new.self) question) (lines.filled refl)
           ∙ ap (λ t. split_table 10000 (basket_table c.args.lines.now) t question) (rows.filled refl),
     )

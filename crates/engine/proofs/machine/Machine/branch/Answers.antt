@@ -1,10 +1,6 @@
-use Rattle.std.proofs.Common.{◌≡◌, ℕ, suc, ◌-◌, ◌<◌, List, ◌∷◌, map, get_or, refl, ap, ◌∙◌, subst, arith}
-use Rattle.rows.specs.declared.tables.TermRow.{TermRow}
+use Rattle.std.proofs.Common.{◌≡◌, get_or, ap, ◌∙◌, arith}
 use Rattle.rows.specs.Rows.{leaf_row}
 use Rattle.checker.specs.Sheets.{tables}
-use Rattle.engine.specs.declared.state.Frame.TheVariants as F
-use Rattle.engine.specs.declared.state.Cell.TheVariants as C
-use Rattle.engine.specs.declared.state.Mode.TheVariants as W
 use Rattle.engine.specs.View.{row_at}
 use Rattle.engine.specs.Stores.{frames_in, cells_in}
 use Rattle.engine.proofs.Branching.{taken_at_zero, taken_above}

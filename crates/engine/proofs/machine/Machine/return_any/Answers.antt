@@ -1,15 +1,13 @@
-use Rattle.std.proofs.Common.{◌≡◌, ℕ, ◌+◌, cond, leb, List, [], ◌∷◌, ◌++◌, length, get_or, sym, refl, ap, ◌∙◌}
+use Rattle.std.proofs.Common.{◌≡◌, cond, leb, [], ◌∷◌, ◌++◌, length, get_or, ap, ◌∙◌}
 use Rattle.rows.specs.declared.tables.TermRow.{TermRow}
 use Rattle.rows.specs.Rows.{leaf_row}
 use Rattle.checker.specs.Sheets.{tables}
 use Rattle.engine.specs.declared.state.Frame.TheVariants as F
 use Rattle.engine.specs.declared.state.Value.{Value}
 use Rattle.engine.specs.declared.state.Value.TheVariants as V
-use Rattle.engine.specs.declared.state.Cell.{Cell}
 use Rattle.engine.specs.declared.state.Cell.TheVariants as C
-use Rattle.engine.specs.declared.state.Mode.TheVariants as W
 use Rattle.engine.specs.declared.state.Next.TheVariants as N
-use Rattle.engine.specs.View.{mode_of, row_at}
+use Rattle.engine.specs.View.{row_at}
 use Rattle.engine.specs.Values.{mode_value}
 use Rattle.engine.specs.Stores.{frames_in, cells_in}
 use Rattle.engine.proofs.Returning.{stood, gave, seconded, paired, top_as}

@@ -1,18 +1,13 @@
-use Rattle.std.proofs.Common.{◌≡◌, ℕ, ◌+◌, cond, leb, map, length, get_or, sym, refl, ap, ◌∙◌}
+use Rattle.std.proofs.Common.{◌≡◌, ◌+◌, cond, leb, map, length, get_or, refl, ap, ◌∙◌}
 use Rattle.rows.specs.declared.tables.TermRow.{TermRow}
 use Rattle.rows.specs.Rows.{leaf_row}
 use Rattle.checker.specs.Sheets.{tables}
 use Rattle.environments.specs.Nodes.{nodes_of}
 use Rattle.environments.specs.States.{enter}
 use Rattle.engine.specs.declared.state.Frame.TheVariants as F
-use Rattle.engine.specs.declared.state.Value.{Value}
-use Rattle.engine.specs.declared.state.Value.TheVariants as V
-use Rattle.engine.specs.declared.state.Cell.{Cell}
-use Rattle.engine.specs.declared.state.Cell.TheVariants as C
 use Rattle.engine.specs.declared.state.Mode.TheVariants as W
 use Rattle.engine.specs.declared.state.Next.TheVariants as N
 use Rattle.engine.specs.View.{view_cell, mode_of, row_at}
-use Rattle.engine.specs.Values.{mode_value}
 use Rattle.engine.specs.Stores.{frames_in, cells_in, entered}
 use Rattle.engine.proofs.Returning.{enter_stands, bound_cell, binding_made, rebound, top_as}
 use Rattle.engine.proofs.machine.Machine.return_lam.Goals as goal

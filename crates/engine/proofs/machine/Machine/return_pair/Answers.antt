@@ -1,15 +1,8 @@
-use Rattle.std.proofs.Common.{◌≡◌, ℕ, ◌+◌, List, [], ◌∷◌, ◌++◌, length, get_or, sym, refl, ap, ◌∙◌}
-use Rattle.rows.specs.declared.tables.TermRow.{TermRow}
-use Rattle.rows.specs.Rows.{leaf_row}
+use Rattle.std.proofs.Common.{refl, ap, ◌∙◌}
 use Rattle.checker.specs.Sheets.{tables}
 use Rattle.engine.specs.declared.state.Frame.TheVariants as F
-use Rattle.engine.specs.declared.state.Value.{Value}
-use Rattle.engine.specs.declared.state.Value.TheVariants as V
-use Rattle.engine.specs.declared.state.Cell.{Cell}
-use Rattle.engine.specs.declared.state.Cell.TheVariants as C
 use Rattle.engine.specs.declared.state.Mode.TheVariants as W
-use Rattle.engine.specs.declared.state.Next.TheVariants as N
-use Rattle.engine.specs.View.{mode_of, row_at}
+use Rattle.engine.specs.View.{mode_of}
 use Rattle.engine.specs.Values.{left_of, right_of}
 use Rattle.engine.specs.Stores.{frames_in, cells_in}
 use Rattle.engine.proofs.Returning.{left_half, right_half, gave, leads_to, top_as}

@@ -1,7 +1,6 @@
 use Rattle.std.proofs.Common.{◌≡◌, [], length, sym, ap, subst, arith}
 use Rattle.theory.specs.Stands.{rule_of}
 use Rattle.checker.specs.Sheets.{tables}
-use Rattle.checker.specs.Theorems.{Rule}
 use Rattle.runs.specs.Calls.{Running, start, Came, opened}
 use Rattle.engine.specs.Runs.{limits_of, view}
 use Rattle.engine.proofs.Keeping.{open_kept}
@@ -12,7 +11,7 @@ invariant_of-result c =
     let k = open_kept c.laws.ensures (tables c.args.sheet) c.is_rule.ensures.lawful c.is_rule.ensures.typed c.new.result c.beginning.result c.terms-rows.result.now c.terms-rows.ensures c.beginning.ensures c.new.ensures.mode c.new.ensures.moves c.new.ensures.frames c.new.ensures.cells in
     let f = ap length c.new.ensures.frames in
     let x = ap length c.new.ensures.cells in
-    (omega arith, (omega (arith, c.new.ensures.moves), (omega (arith, f), (omega (arith, x), (k.holds, (k.typed, tt))))))
+    record { spending = omega arith; moving = omega (arith, c.new.ensures.moves); standing = omega (arith, f); holding = omega (arith, x); fitting = k.holds; typing = k.typed }
 
 pub returns : goal.returns
 unfolding view

@@ -1,20 +1,18 @@
-use Rattle.std.proofs.Common.{◌≡◌, ℕ, ◌+◌, ◌<◌, true, sym, refl, ap, ◌∙◌, subst, arith}
+use Rattle.std.proofs.Common.{◌≡◌, ◌<◌, true, sym, refl, ap, ◌∙◌, subst, arith}
 use Rattle.checker.specs.Sheets.{tables}
-use Rattle.checker.specs.Theorems.{Rule}
-use Rattle.runs.specs.Calls.{Running}
 use Rattle.environments.specs.Nodes.{nodes_of}
 use Rattle.environments.specs.NodeTerms.{terms_of}
 use Rattle.machine.specs.StateTyping.{WellTyped}
 use Rattle.environments.specs.States.{State}
 use Rattle.environments.specs.Stands.{stands}
 use Rattle.environments.specs.Fits.{fits}
-use Rattle.environments.specs.Runs.{Standing, standing}
+use Rattle.environments.specs.Runs.{standing}
 use Rattle.engine.specs.Stores.{frames_in, cells_in}
 use Rattle.engine.specs.Choices.{state_of}
 use Rattle.engine.specs.Runs.{limits_of, standing_of, view}
 use Rattle.engine.proofs.Suiting.{small, top_suits}
 use Rattle.engine.proofs.Under.{spent_halts}
-use Rattle.engine.proofs.Keeping.{Sound, made_kept, made_moves, made_fits, halted, rests, stayed_halts, stayed_same, stayed_fits}
+use Rattle.engine.proofs.Keeping.{made_kept, made_moves, made_fits, halted, rests, stayed_halts, stayed_same, stayed_fits}
 use Rattle.engine.proofs.run.Run.step.Goals as goal
 
 -- the fuel is spent
@@ -47,22 +45,15 @@ invariant_of-self g c =
     let r = c.args.self.now in
     let s = tables r.sheet in
     let st = c.if-not-step.ensures.stepped in
-    let f = stayed_fits c.laws.ensures (tables r.sheet) c.is_rule.ensures.lawful (g.C.Counter.table c.args.counter.now) (g.C.Counter.laws c.args.counter.now) (limits_of r.limits) r.machine c.step.new.self r.steps (r.fitting, r.typing) st in (
-      r.spending,
-      (
-        omega (arith, st.unmoved, r.moving),
-        (
-          omega (arith, f.0, r.standing),
-          (
-            omega (arith, f.1, r.holding),
-            (
-              subst (λ (p : State). fits (terms_of (nodes_of s)) (nodes_of s) p ≡ true) (sym st.same) r.fitting,
-              (subst (λ (p : State). ∥ WellTyped (stands (terms_of (nodes_of s)) p) ∥₁) (sym st.same) r.typing, tt),
-            ),
-          ),
-        ),
-      ),
-    )
+    let f = stayed_fits c.laws.ensures (tables r.sheet) c.is_rule.ensures.lawful (g.C.Counter.table c.args.counter.now) (g.C.Counter.laws c.args.counter.now) (limits_of r.limits) r.machine c.step.new.self r.steps (r.fitting, r.typing) st in
+    record {
+      spending = r.spending;
+      moving = omega (arith, st.unmoved, r.moving);
+      standing = omega (arith, f.0, r.standing);
+      holding = omega (arith, f.1, r.holding);
+      fitting = subst (λ (p : State). fits (terms_of (nodes_of s)) (nodes_of s) p ≡ true) (sym st.same) r.fitting;
+      typing = subst (λ (p : State). ∥ WellTyped (stands (terms_of (nodes_of s)) p) ∥₁) (sym st.same) r.typing;
+    }
 
 pub returns-then-not-step : goal.returns-then-not-step
 unfolding view
@@ -87,7 +78,7 @@ invariant_of-self-2 g c =
     let w = c.if-not-step.ensures.stepped in
     let k = made_kept c.laws.ensures (tables r.sheet) c.is_rule.ensures.lawful (g.C.Counter.table c.args.counter.now) (g.C.Counter.laws c.args.counter.now) (limits_of r.limits) r.machine c.step.new.self r.steps (r.fitting, r.typing) w lasts in
     let f = made_fits c.laws.ensures (tables r.sheet) c.is_rule.ensures.lawful (g.C.Counter.table c.args.counter.now) (g.C.Counter.laws c.args.counter.now) (limits_of r.limits) r.machine c.step.new.self r.steps (r.fitting, r.typing) w in
-    (omega (arith, lasts), (omega (arith, f.2, r.moving), (f.0, (f.1, (k.holds, (k.typed, tt))))))
+    record { spending = omega (arith, lasts); moving = omega (arith, f.2, r.moving); standing = f.0; holding = f.1; fitting = k.holds; typing = k.typed }
 
 pub returns : goal.returns
 unfolding view

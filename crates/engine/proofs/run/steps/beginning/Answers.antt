@@ -1,4 +1,4 @@
-use Rattle.std.proofs.Common.{Bool, cond, eqb, [], get_or, sym, ap, ◌∙◌, eq-eqb}
+use Rattle.std.proofs.Common.{Bool, cond, [], get_or, sym, ap, ◌∙◌, eq-eqb}
 use Rattle.rows.specs.declared.tables.TermRow.{TermRow}
 use Rattle.rows.specs.Rows.{leaf_row}
 use Rattle.engine.specs.declared.state.Mode.TheVariants as W

@@ -11,7 +11,7 @@ pub invariant_of-self : goal.invariant_of-self
 invariant_of-self c =
     let t = c.args.self.now in
     let l = level t.frames t.height (omega (arith, t.framed, t.low)) in
-    (length-set t.frames t.height c.args.f ∙ t.framed, (t.celled, (omega (arith, c.requires, l), (t.few, tt))))
+    record { framed = length-set t.frames t.height c.args.f ∙ t.framed; celled = t.celled; low = omega (arith, c.requires, l); few = t.few }
 
 pub returns : goal.returns
 returns c =
