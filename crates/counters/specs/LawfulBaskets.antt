@@ -1,7 +1,7 @@
 -- Lines that are not refused have a lawful table.
 use Rattle.std.specs.Prelude.{◌≡◌, ℕ, ◌+◌, ◌*◌, ◌<◌, ◌≤◌, true, false, cond, ltb, List, [], ◌∷◌, length, is_some, Some, None, sum_by, count_by, nat_le, nat_lt, refl}
 use Rattle.std.proofs.Common.{◌∙◌, ⊎_elim, arith}
-use Rattle.std.specs.List.{AllByRecursion as All}
+use Rattle.std.specs.List.{AllByRecursion}
 use Rattle.std.proofs.lemmas.List.Sums.{sum_by-cons}
 use Rattle.std.proofs.ByRecursion.{sum_by_le}
 use Rattle.std.proofs.lemmas.Bool.{leb-true, ltb-false, ne_eqb, cases_Bool, and_parts, both_ways, cond_both}
@@ -15,7 +15,7 @@ use Rattle.counters.specs.Baskets.{is_of, adds, is_small, first_large, basket_ou
 abbrev pub Small : Line → Type 0
 Small line = (line.article ≤ largest_field) × (line.quantity ≤ largest_field)
 
-all_small : (lines : List Line) (i : ℕ) → is_some (first_large lines i) ≡ false → All Small lines
+all_small : (lines : List Line) (i : ℕ) → is_some (first_large lines i) ≡ false → AllByRecursion Small lines
 all_small [] i h = tt
 all_small (l ∷ ls) i h =
     ⊎_elim
@@ -26,22 +26,22 @@ all_small (l ∷ ls) i h =
     (cases_Bool (is_small l))
 
 -- Lines that are not refused are few and small.
-pub few_small : (lines : List Line) → is_some (basket_outcome lines) ≡ false → (length lines ≤ most_lines) × All Small lines
+pub few_small : (lines : List Line) → is_some (basket_outcome lines) ≡ false → (length lines ≤ most_lines) × AllByRecursion Small lines
 few_small ls h =
     ⊎_elim
     (λ (e : ltb most_lines (length ls) ≡ true). absurd (both_ways true (rw e at h) refl))
     (λ (e : ltb most_lines (length ls) ≡ false). (ltb-false most_lines (length ls) e, all_small ls 0 (rw e at h)))
     (cases_Bool (nat_lt most_lines (length ls)))
 
-adds_small : (article : ℕ) (lines : List Line) → All Small lines → All (λ line. adds article line ≤ largest_field) lines
+adds_small : (article : ℕ) (lines : List Line) → AllByRecursion Small lines → AllByRecursion (λ line. adds article line ≤ largest_field) lines
 adds_small q [] h = tt
 adds_small q (l ∷ ls) h =
     (cond_both (is_of q l) l.quantity 0 (λ n. n ≤ largest_field) (λ _. h.0.1) (λ _. omega arith), adds_small q ls h.1)
 
-pub sum_small : (article : ℕ) (lines : List Line) → All Small lines → sum_by (adds article) lines ≤ length lines * largest_field
+pub sum_small : (article : ℕ) (lines : List Line) → AllByRecursion Small lines → sum_by (adds article) lines ≤ length lines * largest_field
 sum_small q ls h = sum_by_le (adds q) largest_field ls (adds_small q ls h)
 
-none_above : (article : ℕ) (lines : List Line) → largest_field < article → All Small lines → count_by (is_of article) lines ≡ 0
+none_above : (article : ℕ) (lines : List Line) → largest_field < article → AllByRecursion Small lines → count_by (is_of article) lines ≡ 0
 none_above q [] big h = refl
 none_above q (l ∷ ls) big h =
     let e : is_of q l ≡ false = ne_eqb l.article q (λ same. omega (arith, h.0.0)) in

@@ -23,7 +23,7 @@ use Rattle.environments.specs.Fits.{fits}
 use Rattle.environments.specs.Runs.{Standing, standing, status, opening, onto, once}
 use Rattle.environments.specs.Laws.{Laws, KeptFor}
 use Rattle.engine.specs.declared.state.Mode.{Mode}
-use Rattle.engine.specs.declared.machine.Machine.{Machine as Engine}
+use Rattle.engine.specs.declared.control.Machine.{Machine as Engine}
 use Rattle.engine.specs.View.{view_frame, view_cell, mode_of}
 use Rattle.engine.specs.Stores.{frames_in, cells_in, entered}
 use Rattle.engine.specs.Choices.{state_of, Went, Stayed}

@@ -9,3 +9,4 @@ pub mod Ends
 pub mod Suiting
 pub mod Under
 pub mod Keeping
+pub mod Meanings

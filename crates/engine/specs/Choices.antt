@@ -15,7 +15,7 @@ use Rattle.engine.specs.declared.state.Mode.{Mode}
 use Rattle.engine.specs.declared.state.Mode.TheVariants as M
 use Rattle.engine.specs.declared.state.Next.{Next}
 use Rattle.engine.specs.declared.state.Next.TheVariants as N
-use Rattle.engine.specs.declared.machine.Machine.{Machine}
+use Rattle.engine.specs.declared.control.Machine.{Machine}
 use Rattle.engine.specs.View.{view_frame, view_cell, mode_of}
 use Rattle.engine.specs.Stores.{frames_in, cells_in}
 

@@ -13,7 +13,7 @@ use Rattle.environments.specs.Nodes.{nodes_of}
 use Rattle.environments.specs.NodeTerms.{terms_of}
 use Rattle.environments.specs.Runs.{Standing, standing}
 use Rattle.engine.specs.declared.limits.Limits.{Limits}
-use Rattle.engine.specs.declared.machine.Machine.{Machine}
+use Rattle.engine.specs.declared.control.Machine.{Machine}
 use Rattle.engine.specs.declared.run.Run.{Run}
 use Rattle.engine.specs.Choices.{state_of}
 

@@ -1,8 +1,8 @@
 // Runs rules: the store of frames and cells, and the machine's step over it.
 #![tactic(auto)]
 
+mod control;
 mod limits;
-mod machine;
 mod run;
 mod state;
 mod store;

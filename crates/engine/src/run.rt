@@ -9,8 +9,8 @@ ghost use Rattle.environments.specs.Fits.{fits};
 ghost use Rattle.engine.specs.Stores.{frames_in, cells_in};
 ghost use Rattle.engine.specs.Choices.{state_of};
 
+use crate::control::Machine;
 use crate::limits::Limits;
-use crate::machine::Machine;
 use checker::Passed;
 
 pub mod steps;

@@ -7,8 +7,8 @@ ghost use Rattle.runs.specs.Calls.{start, now_at, Came};
 ghost use Rattle.engine.specs.Stores.{entered};
 ghost use Rattle.engine.specs.Runs.{limits_of, view, Advanced};
 
+use crate::control::Machine;
 use crate::limits::Limits;
-use crate::machine::Machine;
 use crate::run::Run;
 use crate::state::Mode;
 use crate::store::Store;

@@ -13,6 +13,7 @@ use Rattle.engine.specs.Runs.{limits_of, standing_of, view}
 use Rattle.engine.proofs.Suiting.{small, top_suits}
 use Rattle.engine.proofs.Under.{spent_halts}
 use Rattle.engine.proofs.Keeping.{made_kept, made_moves, made_fits, halted, rests, stayed_halts, stayed_same, stayed_fits}
+use Rattle.engine.proofs.Meanings.{lawful_meaning}
 use Rattle.engine.proofs.run.Run.step.Goals as goal
 
 -- the fuel is spent
@@ -21,10 +22,10 @@ unfolding view
 returns-then-self g c =
     let r = c.args.self.now in
     let h = spent_halts (tables r.sheet) (limits_of c.args.self.now.limits) (standing_of (tables r.sheet) r.machine r.steps) c.laws.ensures c.if-self.true in
-    let still = halted c.laws.ensures (tables c.args.self.now.sheet) c.is_rule.ensures.lawful (g.C.Counter.table c.args.counter.now) (g.C.Counter.laws c.args.counter.now) (limits_of c.args.self.now.limits) c.args.self.now.machine r.machine r.steps (c.args.self.now.fitting, c.args.self.now.typing) h in
+    let still = halted c.laws.ensures (tables c.args.self.now.sheet) c.is_rule.ensures.lawful (g.C.Counter.table c.args.counter.now) (lawful_meaning (g.C.Counter.table c.args.counter.now) (g.C.Counter.laws c.args.counter.now)) (limits_of c.args.self.now.limits) c.args.self.now.machine r.machine r.steps (c.args.self.now.fitting, c.args.self.now.typing) h in
     record {
       once = λ i. record { limits = limits_of r.limits; standing = still i };
-      step = record { halted = rests c.laws.ensures (tables c.args.self.now.sheet) c.is_rule.ensures.lawful (g.C.Counter.table c.args.counter.now) (g.C.Counter.laws c.args.counter.now) (limits_of c.args.self.now.limits) c.args.self.now.machine r.machine r.steps (c.args.self.now.fitting, c.args.self.now.typing) h; stays = refl };
+      step = record { halted = rests c.laws.ensures (tables c.args.self.now.sheet) c.is_rule.ensures.lawful (g.C.Counter.table c.args.counter.now) (lawful_meaning (g.C.Counter.table c.args.counter.now) (g.C.Counter.laws c.args.counter.now)) (limits_of c.args.self.now.limits) c.args.self.now.machine r.machine r.steps (c.args.self.now.fitting, c.args.self.now.typing) h; stays = refl };
       alike = refl;
     }
 
@@ -45,7 +46,7 @@ invariant_of-self g c =
     let r = c.args.self.now in
     let s = tables r.sheet in
     let st = c.if-not-step.ensures.stepped in
-    let f = stayed_fits c.laws.ensures (tables r.sheet) c.is_rule.ensures.lawful (g.C.Counter.table c.args.counter.now) (g.C.Counter.laws c.args.counter.now) (limits_of r.limits) r.machine c.step.new.self r.steps (r.fitting, r.typing) st in
+    let f = stayed_fits c.laws.ensures (tables r.sheet) c.is_rule.ensures.lawful (g.C.Counter.table c.args.counter.now) (lawful_meaning (g.C.Counter.table c.args.counter.now) (g.C.Counter.laws c.args.counter.now)) (limits_of r.limits) r.machine c.step.new.self r.steps (r.fitting, r.typing) st in
     record {
       spending = r.spending;
       moving = omega (arith, st.unmoved, r.moving);
@@ -61,12 +62,12 @@ returns-then-not-step g c =
     let r = c.args.self.now in
     let s = tables r.sheet in
     let st = c.if-not-step.ensures.stepped in
-    let h = stayed_halts c.laws.ensures (tables r.sheet) c.is_rule.ensures.lawful (g.C.Counter.table c.args.counter.now) (g.C.Counter.laws c.args.counter.now) (limits_of r.limits) r.machine c.step.new.self r.steps (r.fitting, r.typing) st in
-    let same = ap (standing (terms_of (nodes_of s))) (stayed_same c.laws.ensures (tables r.sheet) c.is_rule.ensures.lawful (g.C.Counter.table c.args.counter.now) (g.C.Counter.laws c.args.counter.now) (limits_of r.limits) r.machine c.step.new.self r.steps (r.fitting, r.typing) st) in
-    let still = halted c.laws.ensures (tables r.sheet) c.is_rule.ensures.lawful (g.C.Counter.table c.args.counter.now) (g.C.Counter.laws c.args.counter.now) (limits_of r.limits) r.machine c.step.new.self r.steps (r.fitting, r.typing) h in
+    let h = stayed_halts c.laws.ensures (tables r.sheet) c.is_rule.ensures.lawful (g.C.Counter.table c.args.counter.now) (lawful_meaning (g.C.Counter.table c.args.counter.now) (g.C.Counter.laws c.args.counter.now)) (limits_of r.limits) r.machine c.step.new.self r.steps (r.fitting, r.typing) st in
+    let same = ap (standing (terms_of (nodes_of s))) (stayed_same c.laws.ensures (tables r.sheet) c.is_rule.ensures.lawful (g.C.Counter.table c.args.counter.now) (lawful_meaning (g.C.Counter.table c.args.counter.now) (g.C.Counter.laws c.args.counter.now)) (limits_of r.limits) r.machine c.step.new.self r.steps (r.fitting, r.typing) st) in
+    let still = halted c.laws.ensures (tables r.sheet) c.is_rule.ensures.lawful (g.C.Counter.table c.args.counter.now) (lawful_meaning (g.C.Counter.table c.args.counter.now) (g.C.Counter.laws c.args.counter.now)) (limits_of r.limits) r.machine c.step.new.self r.steps (r.fitting, r.typing) h in
     record {
       once = λ i. record { limits = limits_of r.limits; standing = (same ∙ still) i };
-      step = record { halted = rests c.laws.ensures (tables r.sheet) c.is_rule.ensures.lawful (g.C.Counter.table c.args.counter.now) (g.C.Counter.laws c.args.counter.now) (limits_of r.limits) r.machine c.step.new.self r.steps (r.fitting, r.typing) h; stays = λ i. record { limits = limits_of r.limits; standing = same i } };
+      step = record { halted = rests c.laws.ensures (tables r.sheet) c.is_rule.ensures.lawful (g.C.Counter.table c.args.counter.now) (lawful_meaning (g.C.Counter.table c.args.counter.now) (g.C.Counter.laws c.args.counter.now)) (limits_of r.limits) r.machine c.step.new.self r.steps (r.fitting, r.typing) h; stays = λ i. record { limits = limits_of r.limits; standing = same i } };
       alike = c.if-not-step.ensures.alike;
     }
 
@@ -76,8 +77,8 @@ invariant_of-self-2 g c =
     let r = c.args.self.now in
     let lasts : r.steps < r.limits.fuel = omega (arith, c.if-self.false, r.spending) in
     let w = c.if-not-step.ensures.stepped in
-    let k = made_kept c.laws.ensures (tables r.sheet) c.is_rule.ensures.lawful (g.C.Counter.table c.args.counter.now) (g.C.Counter.laws c.args.counter.now) (limits_of r.limits) r.machine c.step.new.self r.steps (r.fitting, r.typing) w lasts in
-    let f = made_fits c.laws.ensures (tables r.sheet) c.is_rule.ensures.lawful (g.C.Counter.table c.args.counter.now) (g.C.Counter.laws c.args.counter.now) (limits_of r.limits) r.machine c.step.new.self r.steps (r.fitting, r.typing) w in
+    let k = made_kept c.laws.ensures (tables r.sheet) c.is_rule.ensures.lawful (g.C.Counter.table c.args.counter.now) (lawful_meaning (g.C.Counter.table c.args.counter.now) (g.C.Counter.laws c.args.counter.now)) (limits_of r.limits) r.machine c.step.new.self r.steps (r.fitting, r.typing) w lasts in
+    let f = made_fits c.laws.ensures (tables r.sheet) c.is_rule.ensures.lawful (g.C.Counter.table c.args.counter.now) (lawful_meaning (g.C.Counter.table c.args.counter.now) (g.C.Counter.laws c.args.counter.now)) (limits_of r.limits) r.machine c.step.new.self r.steps (r.fitting, r.typing) w in
     record { spending = omega (arith, lasts); moving = omega (arith, f.2, r.moving); standing = f.0; holding = f.1; fitting = k.holds; typing = k.typed }
 
 pub returns : goal.returns
@@ -86,9 +87,9 @@ returns g c =
     let r = c.args.self.now in
     let lasts : r.steps < r.limits.fuel = omega (arith, c.if-self.false, r.spending) in
     let w = c.if-not-step.ensures.stepped in
-    let k = made_kept c.laws.ensures (tables r.sheet) c.is_rule.ensures.lawful (g.C.Counter.table c.args.counter.now) (g.C.Counter.laws c.args.counter.now) (limits_of r.limits) r.machine c.step.new.self r.steps (r.fitting, r.typing) w lasts in
+    let k = made_kept c.laws.ensures (tables r.sheet) c.is_rule.ensures.lawful (g.C.Counter.table c.args.counter.now) (lawful_meaning (g.C.Counter.table c.args.counter.now) (g.C.Counter.laws c.args.counter.now)) (limits_of r.limits) r.machine c.step.new.self r.steps (r.fitting, r.typing) w lasts in
     record {
       once = λ i. record { limits = limits_of r.limits; standing = k.agrees i };
-      step = made_moves c.laws.ensures (tables r.sheet) c.is_rule.ensures.lawful (g.C.Counter.table c.args.counter.now) (g.C.Counter.laws c.args.counter.now) (limits_of r.limits) r.machine c.step.new.self r.steps (r.fitting, r.typing) c.laws-2.ensures w lasts;
+      step = made_moves c.laws.ensures (tables r.sheet) c.is_rule.ensures.lawful (g.C.Counter.table c.args.counter.now) (lawful_meaning (g.C.Counter.table c.args.counter.now) (g.C.Counter.laws c.args.counter.now)) (limits_of r.limits) r.machine c.step.new.self r.steps (r.fitting, r.typing) c.laws-2.ensures w lasts;
       alike = c.if-not-step.ensures.alike;
     }

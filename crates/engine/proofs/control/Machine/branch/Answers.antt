@@ -4,7 +4,7 @@ use Rattle.checker.specs.Sheets.{tables}
 use Rattle.engine.specs.View.{row_at}
 use Rattle.engine.specs.Stores.{frames_in, cells_in}
 use Rattle.engine.proofs.Branching.{taken_at_zero, taken_above}
-use Rattle.engine.proofs.machine.Machine.branch.Goals as goal
+use Rattle.engine.proofs.control.Machine.branch.Goals as goal
 
 pub returns-then-n-eq0 : goal.returns-then-n-eq0
 returns-then-n-eq0 c M =

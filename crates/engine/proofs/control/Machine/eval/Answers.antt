@@ -10,7 +10,7 @@ use Rattle.engine.specs.declared.state.Mode.TheVariants as W
 use Rattle.engine.specs.View.{row_at, type_in}
 use Rattle.engine.specs.Stores.{frames_in, cells_in}
 use Rattle.engine.proofs.Evaluating.{node_is, catch_kind, leaf, form, unroll}
-use Rattle.engine.proofs.machine.Machine.eval.Goals as goal
+use Rattle.engine.proofs.control.Machine.eval.Goals as goal
 
 pub returns-in-0 : goal.returns-in-0
 returns-in-0 c M =

@@ -6,7 +6,7 @@ use Rattle.engine.specs.declared.state.Mode.TheVariants as W
 use Rattle.engine.specs.View.{mode_of}
 use Rattle.engine.specs.Stores.{frames_in, cells_in}
 use Rattle.engine.proofs.Returning.{limited_mode, answered_mode, gave, seconded, leads_to, top_as}
-use Rattle.engine.proofs.machine.Machine.return_number.Goals as goal
+use Rattle.engine.proofs.control.Machine.return_number.Goals as goal
 
 pub returns-in-Succ : goal.returns-in-Succ
 returns-in-Succ g c =

@@ -5,7 +5,7 @@ ghost use Rattle.engine.specs.declared.state.Mode.TheVariants.{Pair as PairMode}
 ghost use Rattle.engine.specs.declared.state.Cell.TheVariants.{Pair as PairCell};
 ghost use Rattle.engine.specs.Stores.{frames_in, cells_in, rest_of, top_second};
 
-use crate::machine::Machine;
+use crate::control::Machine;
 use crate::state::{Cell, Frame, Mode, Next, Value};
 use crate::store::Store;
 

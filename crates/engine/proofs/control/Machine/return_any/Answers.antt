@@ -12,7 +12,7 @@ use Rattle.engine.specs.Values.{mode_value}
 use Rattle.engine.specs.Stores.{frames_in, cells_in}
 use Rattle.engine.proofs.Returning.{stood, gave, seconded, paired, top_as}
 use Rattle.engine.proofs.AnyValue.{passes, seconds, number_pairs, lam_pairs, pair_pairs, rests}
-use Rattle.engine.proofs.machine.Machine.return_any.Goals as goal
+use Rattle.engine.proofs.control.Machine.return_any.Goals as goal
 
 pub returns-in-Catch : goal.returns-in-Catch
 returns-in-Catch c M =

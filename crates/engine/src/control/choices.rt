@@ -7,7 +7,7 @@ ghost use Rattle.engine.specs.declared.state.Mode.TheVariants.{Eval as Evaluatin
 ghost use Rattle.engine.specs.Stores.{frames_in, top_of};
 ghost use Rattle.engine.specs.Choices.{suits, Small, Ready, Comes, Stepped};
 
-use crate::machine::Machine;
+use crate::control::Machine;
 use crate::state::{Cell, Frame, Mode, Next, Op};
 use crate::store::names::row_at;
 use checker::Passed;

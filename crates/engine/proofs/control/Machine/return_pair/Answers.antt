@@ -6,7 +6,7 @@ use Rattle.engine.specs.View.{mode_of}
 use Rattle.engine.specs.Values.{left_of, right_of}
 use Rattle.engine.specs.Stores.{frames_in, cells_in}
 use Rattle.engine.proofs.Returning.{left_half, right_half, gave, leads_to, top_as}
-use Rattle.engine.proofs.machine.Machine.return_pair.Goals as goal
+use Rattle.engine.proofs.control.Machine.return_pair.Goals as goal
 
 pub returns-in-Fst : goal.returns-in-Fst
 returns-in-Fst c M =

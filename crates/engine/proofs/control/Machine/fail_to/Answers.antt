@@ -4,7 +4,7 @@ use Rattle.engine.specs.declared.state.Mode.TheVariants as W
 use Rattle.engine.specs.Stores.{frames_in, cells_in}
 use Rattle.engine.proofs.Returning.{gave, resumed, top_as}
 use Rattle.engine.proofs.AnyValue.{drops}
-use Rattle.engine.proofs.machine.Machine.fail_to.Goals as goal
+use Rattle.engine.proofs.control.Machine.fail_to.Goals as goal
 
 pub returns-in-Catch : goal.returns-in-Catch
 returns-in-Catch c s M =

@@ -6,7 +6,7 @@ use Rattle.engine.specs.View.{mode_of}
 use Rattle.engine.specs.Stores.{frames_in, cells_in, entered}
 use Rattle.engine.specs.Choices.{state_at, state_of, Went}
 use Rattle.engine.proofs.Returning.{enter_stands}
-use Rattle.engine.proofs.machine.Machine.step.Goals as goal
+use Rattle.engine.proofs.control.Machine.step.Goals as goal
 
 -- the row that is entered is where the step of the environment machine leads
 pub returns-in-Enter : goal.returns-in-Enter

@@ -7,8 +7,8 @@ ghost use Rattle.engine.specs.declared.state.Frame.TheVariants.{Ifz as Branching
 ghost use Rattle.engine.specs.Stores.{frames_in, top_of};
 ghost use Rattle.engine.specs.Choices.{suits, Ready, Comes, returns as returning, takes as taking};
 
-use crate::machine::Machine;
-use crate::machine::values::{
+use crate::control::Machine;
+use crate::control::values::{
     answered, bound_to, calculated, left_of, limited, mode_value, right_of,
 };
 use crate::state::{Cell, Frame, Mode, Next, Value};

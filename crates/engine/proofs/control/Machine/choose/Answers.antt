@@ -2,7 +2,7 @@ use Rattle.std.proofs.Common.{sym, refl, ◌∙◌}
 use Rattle.checker.specs.Sheets.{tables}
 use Rattle.engine.specs.Stores.{frames_in, cells_in}
 use Rattle.engine.proofs.Ends.{numeral, lam_rests, pair_rests, number_ends}
-use Rattle.engine.proofs.machine.Machine.choose.Goals as goal
+use Rattle.engine.proofs.control.Machine.choose.Goals as goal
 
 pub returns-in-Eval-default : goal.returns-in-Eval-default
 returns-in-Eval-default g c = record { comes = c.eval.ensures (g.C.Counter.table c.args.counter.now); alike = refl }

@@ -10,7 +10,7 @@ use Rattle.engine.specs.declared.state.Next.TheVariants as N
 use Rattle.engine.specs.View.{view_cell, mode_of, row_at}
 use Rattle.engine.specs.Stores.{frames_in, cells_in, entered}
 use Rattle.engine.proofs.Returning.{enter_stands, bound_cell, binding_made, rebound, top_as}
-use Rattle.engine.proofs.machine.Machine.return_lam.Goals as goal
+use Rattle.engine.proofs.control.Machine.return_lam.Goals as goal
 
 pub returns-in-Apply : goal.returns-in-Apply
 returns-in-Apply c M =
