@@ -1,6 +1,6 @@
 // What can be wrong with a text.
 ghost use Rattle.std.specs.Prelude.{◌≡◌};
-ghost use Rattle.grammar.specs.Faults.{number as number_of_lem};
+ghost use Rattle.grammar.specs.Faults.{number as number_of};
 
 #[derive(Clone, Copy, PartialEq, Eq, Debug)]
 pub enum Fault {
@@ -23,7 +23,7 @@ pub enum Fault {
 impl Fault {
     // The number by which the fault is refused.
     pub fn number(self) -> u8
-        ensures { result ≡ number_of_lem self }
+        ensures { result ≡ number_of self }
     {
         self as u8 + 10
     }

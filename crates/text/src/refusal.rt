@@ -1,6 +1,6 @@
 // Why a text is not written.
 ghost use Rattle.std.specs.Prelude.{◌≡◌};
-ghost use Rattle.text.specs.WriteFaults.{number as number_of_lem};
+ghost use Rattle.text.specs.WriteFaults.{number as number_of};
 
 #[derive(Clone, Copy, PartialEq, Eq, Debug)]
 pub enum WriteRefusal {
@@ -11,7 +11,7 @@ pub enum WriteRefusal {
 impl WriteRefusal {
     // The number by which it is refused.
     pub fn number(self) -> u8
-        ensures { result ≡ number_of_lem self }
+        ensures { result ≡ number_of self }
     {
         match self {
             WriteRefusal::NoRoom => 51,
