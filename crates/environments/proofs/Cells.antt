@@ -116,44 +116,44 @@ law_bind nodes cs c x h f l =
 
 -- ---- closed terms
 
-pub below_below : (d : ℕ) (t : Term) → below d t ≡ true → Below d t
-below_below d (num n) h = tt
-below_below d (name i) h = ltb-true i d h
-below_below d (one g A) h = below_below d A h
-below_below d (two g A B) h =
+pub below_from_test : (d : ℕ) (t : Term) → below d t ≡ true → Below d t
+below_from_test d (num n) h = tt
+below_from_test d (name i) h = ltb-true i d h
+below_from_test d (one g A) h = below_from_test d A h
+below_from_test d (two g A B) h =
     let hs = and_parts (below d A) (below d B) h in
-    (below_below d A hs.0, below_below d B hs.1)
-below_below d (ifz A B C) h =
+    (below_from_test d A hs.0, below_from_test d B hs.1)
+below_from_test d (ifz A B C) h =
     let hs = and_parts (below d A) (below d B && below (suc d) C) h in
     let h' = and_parts (below d B) (below (suc d) C) hs.1 in
-    (below_below d A hs.0, below_below d B h'.0, below_below (suc d) C h'.1)
-below_below d (lam T A) h = below_below (suc d) A h
-below_below d (app A B) h =
+    (below_from_test d A hs.0, below_from_test d B h'.0, below_from_test (suc d) C h'.1)
+below_from_test d (lam T A) h = below_from_test (suc d) A h
+below_from_test d (app A B) h =
     let hs = and_parts (below d A) (below d B) h in
-    (below_below d A hs.0, below_below d B hs.1)
-below_below d (fix T A) h = below_below (suc d) A h
-below_below d (fail T) h = tt
-below_below d (catch A B) h =
+    (below_from_test d A hs.0, below_from_test d B hs.1)
+below_from_test d (fix T A) h = below_from_test (suc d) A h
+below_from_test d (fail T) h = tt
+below_from_test d (catch A B) h =
     let hs = and_parts (below d A) (below d B) h in
-    (below_below d A hs.0, below_below d B hs.1)
+    (below_from_test d A hs.0, below_from_test d B hs.1)
 
-pub BelowBelow : (d : ℕ) (t : Term) → Below d t → below d t ≡ true
-BelowBelow d (num n) h = refl
-BelowBelow d (name i) h = lt-ltb i d h
-BelowBelow d (one g A) h = BelowBelow d A h
-BelowBelow d (two g A B) h = and_from (below d A) (below d B) (BelowBelow d A h.0) (BelowBelow d B h.1)
-BelowBelow d (ifz A B C) h =
-    and_from (below d A) (below d B && below (suc d) C) (BelowBelow d A h.0)
-    (and_from (below d B) (below (suc d) C) (BelowBelow d B h.1) (BelowBelow (suc d) C h.2))
-BelowBelow d (lam T A) h = BelowBelow (suc d) A h
-BelowBelow d (app A B) h = and_from (below d A) (below d B) (BelowBelow d A h.0) (BelowBelow d B h.1)
-BelowBelow d (fix T A) h = BelowBelow (suc d) A h
-BelowBelow d (fail T) h = refl
-BelowBelow d (catch A B) h = and_from (below d A) (below d B) (BelowBelow d A h.0) (BelowBelow d B h.1)
+pub test_from_below : (d : ℕ) (t : Term) → Below d t → below d t ≡ true
+test_from_below d (num n) h = refl
+test_from_below d (name i) h = lt-ltb i d h
+test_from_below d (one g A) h = test_from_below d A h
+test_from_below d (two g A B) h = and_from (below d A) (below d B) (test_from_below d A h.0) (test_from_below d B h.1)
+test_from_below d (ifz A B C) h =
+    and_from (below d A) (below d B && below (suc d) C) (test_from_below d A h.0)
+    (and_from (below d B) (below (suc d) C) (test_from_below d B h.1) (test_from_below (suc d) C h.2))
+test_from_below d (lam T A) h = test_from_below (suc d) A h
+test_from_below d (app A B) h = and_from (below d A) (below d B) (test_from_below d A h.0) (test_from_below d B h.1)
+test_from_below d (fix T A) h = test_from_below (suc d) A h
+test_from_below d (fail T) h = refl
+test_from_below d (catch A B) h = and_from (below d A) (below d B) (test_from_below d A h.0) (test_from_below d B h.1)
 
 pub all_out : (ρ : List Term) → all_closed ρ ≡ true → AllClosed ρ
 all_out [] h = tt
-all_out (e ∷ ρ) h = let hs = and_parts (below 0 e) (all_closed ρ) h in (below_below 0 e hs.0, all_out ρ hs.1)
+all_out (e ∷ ρ) h = let hs = and_parts (below 0 e) (all_closed ρ) h in (below_from_test 0 e hs.0, all_out ρ hs.1)
 
 meant_closed : (ms : List Meant) (i : ℕ) → meants_closed ms ≡ true → meant_is_closed (meant_at ms i) ≡ true
 meant_closed [] i h = refl

@@ -29,7 +29,7 @@ use Rattle.environments.specs.Stands.{mode_of}
 use Rattle.environments.specs.Fits.{is_name, place_fits, closed_fits, value_fits, cell_fits, frame_fits, stack_fits}
 use Rattle.environments.specs.Fits.{mode_fits, below, all_closed, meants_closed, fits, places_fit, Fitting}
 use Rattle.environments.proofs.Folds.{lawful_at}
-use Rattle.environments.proofs.Cells.{law_push, law_bind, cells_push, env_closed, BelowBelow, place_env, place_row}
+use Rattle.environments.proofs.Cells.{law_push, law_bind, cells_push, env_closed, test_from_below, place_env, place_row}
 use Rattle.environments.proofs.Cells.{meants_push}
 use Rattle.environments.proofs.Names.{enter_stands, enter_fits, place_more}
 use Rattle.environments.proofs.Steps.{Shut, ShutFrame}
@@ -145,7 +145,7 @@ module _ (laws : Laws) (ts : List Term) (nodes : List Node) (entry : (i : ℕ) �
       let place : place_fits N (length cs') a (suc J) ≡ true =
       and_from (ltb a N) (leb (suc J) (length cs')) (lt-ltb a N ha) (le-leb (suc J) (length cs') (omega arith)) in
       let new =
-      and_from (below 0 (closed_of ts ms c)) (all_closed (env_of ms x)) (BelowBelow 0 (closed_of ts ms c) bc)
+      and_from (below 0 (closed_of ts ms c)) (all_closed (env_of ms x)) (test_from_below 0 (closed_of ts ms c) bc)
       (env_closed ms x shut) in
       record {
         cells = law';
