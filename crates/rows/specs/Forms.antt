@@ -1,7 +1,9 @@
 -- The bracketed forms: the kinds of their rows, and what they take.
-use Rattle.std.specs.Prelude.{ℕ, ◌-◌, List, [], ◌∷◌, slice_index_or}
+use Rattle.std.specs.Prelude.{ℕ, ◌-◌, Option, Some, None, cond, List, [], ◌∷◌, slice_index_or, ◌==◌, nat_lt}
 use Rattle.rows.specs.declared.forms.Form.{Form}
 use Rattle.rows.specs.declared.forms.Form.TheVariants.{Succ, Ifz, Lam, Ap, Fix, Pair, Fst, Snd, Add, Sub, Mul, Get, Fail, Catch}
+use Rattle.rows.specs.declared.forms.Head.{Head}
+use Rattle.rows.specs.declared.forms.Head.TheVariants.{Number, Name, Form as Bracketed}
 use Rattle.rows.specs.declared.forms.Shape.{Shape}
 use Rattle.rows.specs.declared.forms.Shape.TheVariants.{To, Both}
 
@@ -68,3 +70,11 @@ forms = Succ ∷ Ifz ∷ Lam ∷ Ap ∷ Fix ∷ Pair ∷ Fst ∷ Snd ∷ Add ∷
 -- the form of rows of kind k, for a k from 2 to 15
 abbrev pub form_at : ℕ → Form
 form_at k = slice_index_or forms (k - 2) Catch
+
+-- what rows of kind k begin with
+abbrev pub head_at : ℕ → Head
+head_at k = cond (nat_lt k 2) (cond (k == 0) Number Name) (Bracketed (form_at k))
+
+-- the shape of type rows of kind k, if they have one
+abbrev pub shape_at : ℕ → Option Shape
+shape_at k = cond (k == 1) (Some To) (cond (k == 2) (Some Both) None)

@@ -1,9 +1,9 @@
-// The forms that are written in brackets.
+// The forms that are written in brackets, and what the kinds of rows stand for.
 ghost use Rattle.std.specs.Prelude.{◌≡◌, ◌≤◌};
-ghost use Rattle.rows.specs.Forms.{kind as kind_of, types as types_of, parts as parts_of, shape_kind, form_at};
+ghost use Rattle.rows.specs.Forms.{kind as kind_of, types as types_of, parts as parts_of, shape_kind, form_at, head_at, shape_at};
 
 // The bracketed forms of a term, in the order of their kinds from 2 on. Kind 0 is a number and 1 a name.
-#[derive(Clone, Copy, PartialEq, Eq)]
+#[derive(Clone, Copy, PartialEq, Eq, Debug)]
 pub enum Form {
     Succ,
     Ifz,
@@ -76,8 +76,29 @@ pub fn form_of(kind: u8) -> Form
     }
 }
 
+// What a term begins with: a number, a name, or the word of a form.
+#[derive(Clone, Copy, PartialEq, Eq, Debug)]
+pub enum Head {
+    Number,
+    Name,
+    Form(Form),
+}
+
+// What rows of a kind begin with. A kind above 15, which no lawful row has, is read as the last form's.
+impl From<u8> for Head {
+    ghost from_gives = { λ kind head. head ≡ head_at kind };
+
+    fn from(kind: u8) -> Head {
+        match kind {
+            0 => Head::Number,
+            1 => Head::Name,
+            _ => Head::Form(form_of(kind)),
+        }
+    }
+}
+
 // The bracketed forms of a type.
-#[derive(Clone, Copy, PartialEq, Eq)]
+#[derive(Clone, Copy, PartialEq, Eq, Debug)]
 pub enum Shape {
     To,
     Both,

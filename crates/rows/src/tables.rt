@@ -1,4 +1,9 @@
 // The rows of the two tables. A field that a row's kind does not use is 0.
+ghost use Rattle.std.specs.Prelude.{◌≡◌, [], ◌∷◌};
+ghost use Rattle.rows.specs.Forms.{head_at, shape_at, shape_kind};
+ghost use Rattle.rows.specs.Rows.{type_row, leaf_row, form_row};
+
+use crate::forms::{Form, Head, Shape};
 
 // A type. Kind 0 is nat, 1 a function and 2 a pair, of the types at two earlier rows.
 #[derive(Clone, Copy, PartialEq, Eq, Debug)]
@@ -15,6 +20,28 @@ impl TypeRow {
         left: 0,
         right: 0,
     };
+
+    // The row of a function or a pair.
+    pub fn new(shape: Shape, left: u32, right: u32) -> TypeRow
+        ensures { result ≡ type_row (shape_kind shape) left right }
+    {
+        TypeRow {
+            kind: shape.kind(),
+            left,
+            right,
+        }
+    }
+
+    // The shape of the row's type; nat, and a kind above 2, have none.
+    pub fn shape(self) -> Option<Shape>
+        ensures { result ≡ shape_at self.kind }
+    {
+        match self.kind {
+            1 => Some(Shape::To),
+            2 => Some(Shape::Both),
+            _ => None,
+        }
+    }
 }
 
 // A term: its type row, its number, and the earlier rows of its parts.
@@ -29,6 +56,7 @@ pub struct TermRow {
 }
 
 impl TermRow {
+    // Also the row of the number 0.
     pub const ZERO: TermRow = TermRow {
         kind: 0,
         ty: 0,
@@ -37,4 +65,46 @@ impl TermRow {
         b: 0,
         c: 0,
     };
+
+    // The row of a number.
+    pub fn number(n: u32) -> TermRow
+        ensures { result ≡ leaf_row 0 n }
+    {
+        TermRow {
+            number: n,
+            ..TermRow::ZERO
+        }
+    }
+
+    // The row of a name.
+    pub fn name(n: u32) -> TermRow
+        ensures { result ≡ leaf_row 1 n }
+    {
+        TermRow {
+            kind: 1,
+            ..TermRow::number(n)
+        }
+    }
+
+    // The row of a form with the row of its type and those of its parts, 0 for what it has not.
+    pub fn form(form: Form, ty: u32, parts: [u32; 3]) -> TermRow
+        ensures { result ≡ form_row form (ty ∷ []) parts }
+    {
+        let [a, b, c] = parts;
+        TermRow {
+            kind: form.kind(),
+            ty,
+            number: 0,
+            a,
+            b,
+            c,
+        }
+    }
+
+    // What the term begins with.
+    pub fn head(self) -> Head
+        ensures { result ≡ head_at self.kind }
+    {
+        Head::from(self.kind)
+    }
 }

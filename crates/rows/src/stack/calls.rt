@@ -5,14 +5,6 @@ ghost use Rattle.rows.specs.Views.{view, room};
 
 use crate::stack::{Full, Stack};
 
-// The entry at a place. The slice is an argument here, so that the check knows its size in bytes.
-fn at<T: Copy>(slots: &[T], place: usize) -> T
-    requires { place < length slots.now }
-    ensures { slice_get slots.now place ≡ Some result }
-{
-    slots[place]
-}
-
 impl<'a, T: Copy> Stack<'a, T> {
     // An empty stack.
     pub fn new(slots: &'a mut [T]) -> Stack<'a, T>
@@ -42,10 +34,7 @@ impl<'a, T: Copy> Stack<'a, T> {
         ensures after { view self.new ≡ drop 1 (view self.old) }
         ensures capacity { room self.new ≡ room self.old }
     {
-        if self.height == 0 {
-            return None;
-        }
-        self.height -= 1;
+        self.height = self.height.checked_sub(1)?;
         Some(self.slots[self.height])
     }
 
@@ -53,10 +42,8 @@ impl<'a, T: Copy> Stack<'a, T> {
     pub fn look(&self, distance: usize) -> Option<T>
         ensures { result ≡ slice_get (view self.now) distance }
     {
-        if distance >= self.height {
-            return None;
-        }
-        Some(at(self.slots, self.height - 1 - distance))
+        let place = self.height.checked_sub(1)?.checked_sub(distance)?;
+        Some(self.slots[place])
     }
 
     // The top entry, if there is one.
@@ -71,8 +58,8 @@ impl<'a, T: Copy> Stack<'a, T> {
         ensures after { view self.new ≡ slice_set (view self.old) 0 x }
         ensures capacity { room self.new ≡ room self.old }
     {
-        if self.height > 0 {
-            self.slots[self.height - 1] = x;
+        if let Some(top) = self.height.checked_sub(1) {
+            self.slots[top] = x;
         }
     }
 }
