@@ -1,3 +1,3 @@
 mod Lines
-mod Looks
 mod PriceRows
+mod Yields

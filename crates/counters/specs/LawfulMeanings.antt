@@ -5,10 +5,9 @@ use Rattle.counters.specs.Tables.{Lawful}
 use Rattle.counters.specs.Meanings.{of_basket, of_prices}
 use Rattle.counters.specs.LawfulBaskets.{basket_lawful}
 use Rattle.counters.specs.LawfulPrices.{prices_lawful}
-use Rattle.std.specs.Prelude.{take}
 
 pub basket_laws : (basket : Basket) → Lawful (of_basket basket)
-basket_laws b = basket_lawful (take b.len b.lines) b.lawful
+basket_laws b = basket_lawful b.lines.items b.lawful
 
 pub prices_laws : (prices : Prices) → Lawful (of_prices prices)
-prices_laws p = prices_lawful (take p.len p.rows) p.lawful
+prices_laws p = prices_lawful p.rows.items p.lawful

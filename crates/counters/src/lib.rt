@@ -8,7 +8,6 @@ mod line;
 mod price;
 mod prices;
 mod refusal;
-mod slots;
 mod split;
 
 pub use basket::{Basket, MOST_LINES};
