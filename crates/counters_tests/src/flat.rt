@@ -33,10 +33,6 @@ impl Counter for Flat {
     ghost laws = { λ c. up_to_lawful c.last (λ _. c.amount) c.short (λ _ _. c.small) };
 
     fn answer(&mut self, question: u32) -> Option<u32> {
-        if question <= self.last {
-            Some(self.amount)
-        } else {
-            None
-        }
+        (question <= self.last).then_some(self.amount)
     }
 }

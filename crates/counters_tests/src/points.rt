@@ -33,14 +33,12 @@ impl Counter for Points {
         if question > TOP {
             return None;
         }
-        if question == self.money {
-            return Some(self.points);
+        if question != self.money {
+            *self = Points {
+                money: question,
+                points: question / 100,
+            };
         }
-        let points = question / 100;
-        *self = Points {
-            money: question,
-            points,
-        };
-        Some(points)
+        Some(self.points)
     }
 }

@@ -11,10 +11,7 @@ fn amount_of<C: Counter>(counter: &mut C, question: u32) -> u32
     ensures small { result ≤ top }
     ensures alike { C.Counter.table counter.new ≡ C.Counter.table counter.old }
 {
-    match counter.answer(question) {
-        Some(amount) => amount,
-        None => 0,
-    }
+    counter.answer(question).unwrap_or(0)
 }
 
 // The sum of two answers, which fits since no amount is above the largest; the counter's table stays.

@@ -20,12 +20,8 @@ fn row(article: u32, price: u32) -> PriceRow {
 // Rows of the articles from 0 on, each at a price that is its number.
 fn rows_of<const N: usize>() -> [PriceRow; N] {
     let mut rows = [row(0, 0); N];
-    let mut article = 0;
-    for r in rows.iter_mut() {
+    for (r, article) in rows.iter_mut().zip(0..TOP) {
         *r = row(article, article);
-        if article < TOP {
-            article += 1;
-        }
     }
     rows
 }

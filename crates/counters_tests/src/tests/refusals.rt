@@ -6,10 +6,8 @@ use std::test::Fail;
 
 // The number and the place of a refusal, and zeros of a success.
 fn told(res: Result<(), Refusal>) -> (u8, usize) {
-    match res {
-        Ok(()) => (0, 0),
-        Err(refusal) => (refusal.number(), refusal.place()),
-    }
+    res.err()
+        .map_or((0, 0), |refusal| (refusal.number(), refusal.place()))
 }
 
 #[test]
