@@ -1,12 +1,12 @@
 -- What a search finds in rows that are not refused.
-use Rattle.std.proofs.Common.{◌≡◌, ℕ, zero, suc, ◌+◌, ◌<◌, ◌≤◌, false, eqb, List, [], ◌∷◌, length, get_or, is_some, Some, None, Result, Ok, Err, sym, refl, ap, ◌∙◌, ⊎_elim, arith}
+use Rattle.std.proofs.Common.{◌≡◌, ℕ, zero, suc, ◌+◌, ◌<◌, ◌≤◌, false, List, [], ◌∷◌, length, get_or, is_some, Some, None, Result, Ok, Err, sym, refl, ap, ⊎_elim, arith}
 use Rattle.std.specs.List.Sorted.{IsSearchInRange, IsBinarySearchResult, IsNonDecreasingBy}
 use Rattle.std.specs.Ordering.{nat_cmp, ordering_index}
 use Rattle.std.specs.Result.{result_ok}
 use Rattle.std.specs.Option.{MatchOption}
 use Rattle.std.proofs.lemmas.Cmp.{ranked}
 use Rattle.std.proofs.lemmas.List.Sorted.{IsNonDecreasingBy-from_default}
-use Rattle.std.proofs.lemmas.Bool.{ne_eqb, eq-eqb, cases_lt, cond-true, cond-false}
+use Rattle.std.proofs.lemmas.Bool.{cases_lt}
 use Rattle.std.proofs.lemmas.Bool.Decides.{nat_tests}
 use Rattle.counters.specs.declared.price.PriceRow.{PriceRow}
 use Rattle.counters.specs.PriceLists.{price_table, first_bad, prices_outcome}
@@ -26,17 +26,15 @@ ascending (r ∷ rs) least i h (suc j) (suc k) d lt lt' = ascending rs (r.articl
 -- A row has its article's price.
 found : (rows : List PriceRow) (least i : ℕ) → is_some (first_bad rows least i) ≡ false → (k : ℕ) (d : PriceRow) → k < length rows → (q : ℕ) → (get_or rows k d).article ≡ q → Some (get_or rows k d).price ≡ price_table rows q
 found [] least i h k d lt q e = absurd (omega arith)
-found (r ∷ rs) least i h zero d lt q e = sym (cond-true (eqb r.article q) _ _ (eq-eqb r.article q e))
+found (r ∷ rs) least i h zero d lt q e = grind (arith, nat_tests)
 found (r ∷ rs) least i h (suc k) d lt q e =
     let p = passes r rs least i h in
-    found rs (r.article + 1) (i + 1) p.rest k d (omega arith) q e
-    ∙ sym (cond-false (eqb r.article q) _ _ (ne_eqb r.article q (λ same. omega (arith, floors rs (r.article + 1) (i + 1) p.rest k d (omega arith), e))))
+    grind (arith, nat_tests, floors rs (r.article + 1) (i + 1) p.rest k d (omega arith), found rs (r.article + 1) (i + 1) p.rest k d (omega arith) q e)
 
 -- An article in no row has no price.
 missing : (rows : List PriceRow) (q : ℕ) (d : PriceRow) → ((k : ℕ) → k < length rows → (get_or rows k d).article ≡ q → ⊥) → None ≡ price_table rows q
 missing [] q d h = refl
-missing (r ∷ rs) q d h =
-    missing rs q d (λ k lt. h (suc k) (omega arith)) ∙ sym (cond-false (eqb r.article q) _ _ (ne_eqb r.article q (h 0 (omega arith))))
+missing (r ∷ rs) q d h = grind (arith, nat_tests, h 0 (omega arith), missing rs q d (λ k lt. h (suc k) (omega arith)))
 
 -- Rows that are not refused.
 module _ (rows : List PriceRow) (passed : is_some (prices_outcome rows) ≡ false) (q : ℕ) where

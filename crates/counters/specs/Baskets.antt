@@ -1,8 +1,8 @@
 -- What lines mean as a basket, and when they are refused.
-use Rattle.std.specs.Prelude.{ℕ, ◌+◌, Bool, cond, ◌&&◌, List, [], ◌∷◌, length, Some, None, sum_by, count_by, Option, ◌==◌, nat_le, nat_lt}
+use Rattle.std.specs.Prelude.{ℕ, ◌+◌, Bool, cond, ◌&&◌, List, [], ◌∷◌, length, Some, None, sum_by, count_by, ◌==◌, nat_le, nat_lt}
 use Rattle.counters.specs.declared.line.Line.{Line}
 use Rattle.counters.specs.Limits.{most_lines, largest_field}
-use Rattle.counters.specs.Tables.{Table, amount_or_zero}
+use Rattle.counters.specs.Tables.{Table}
 use Rattle.counters.specs.Refusals.{Outcome, earlier}
 
 -- Whether a line is one of an article.
@@ -16,10 +16,6 @@ adds article line = cond (is_of article line) line.quantity 0
 -- The sum over the article's lines; nothing where no line has the article.
 abbrev pub basket_table : List Line → Table
 basket_table lines article = cond (nat_lt 0 (count_by (is_of article) lines)) (Some (sum_by (adds article) lines)) None
-
--- The article's entry with one line more.
-abbrev pub with_line : ℕ → Option ℕ → Line → Option ℕ
-with_line article so_far line = cond (is_of article line) (Some (amount_or_zero so_far + line.quantity)) so_far
 
 -- Whether both fields of a line are at most 9,999.
 abbrev pub is_small : Line → Bool

@@ -31,6 +31,7 @@ impl Prices {
     }
 
     // Makes this the list of these rows, or refuses them and leaves it as it was.
+    // A basket is made in the same four lines, and a trait for both would be longer than they are.
     pub fn fill(&mut self, rows: &[PriceRow]) -> Result<(), Refusal>
         ensures result { outcome result ≡ prices_outcome rows.now }
         ensures filled { is_ok result ≡ true → of_prices self.new ≡ price_table rows.now }

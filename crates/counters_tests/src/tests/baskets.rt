@@ -29,7 +29,7 @@ fn missing_articles_have_no_answer(rt: HostRuntime) -> Result<(), Fail> {
     basket.fill(&[line(5, 1)])?;
     assert_eq!(rt; basket.answer(4), None);
     assert_eq!(rt; basket.answer(6), None);
-    assert_eq!(rt; basket.answer(4_294_967_295), None);
+    assert_eq!(rt; basket.answer(u32::MAX), None);
     Ok(())
 }
 

@@ -7,7 +7,7 @@ use rows::TOP;
 
 #[test]
 fn a_flat_counter(rt: HostRuntime) {
-    let mut flat = Flat::new(4_294_967_295, 10);
+    let mut flat = Flat::new(u32::MAX, 10);
     assert_eq!(rt; flat.answer(10), Some(TOP));
     assert_eq!(rt; flat.answer(11), None);
 }

@@ -22,7 +22,7 @@ fn misses_before_between_and_behind(rt: HostRuntime) -> Result<(), Fail> {
     assert_eq!(rt; prices.answer(1), None);
     assert_eq!(rt; prices.answer(3), None);
     assert_eq!(rt; prices.answer(5), None);
-    assert_eq!(rt; prices.answer(4_294_967_295), None);
+    assert_eq!(rt; prices.answer(u32::MAX), None);
     Ok(())
 }
 

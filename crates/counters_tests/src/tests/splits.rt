@@ -36,7 +36,7 @@ fn at_the_largest_question(rt: HostRuntime) {
 
 #[test]
 fn above_it_all_goes_to_the_first(rt: HostRuntime) {
-    let mut split = points_behind(4_294_967_295);
+    let mut split = points_behind(u32::MAX);
     assert_eq!(rt; split.answer(0), Some(7));
     assert_eq!(rt; split.answer(TOP), Some(7));
     assert_eq!(rt; split.answer(TOP + 1), None);
