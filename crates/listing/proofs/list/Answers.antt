@@ -1,6 +1,11 @@
-use Rattle.std.proofs.Common.{◌≡◌, IfOk, string_bytes, subst}
-use Rattle.listing.specs.Lines.{shown}
+use Rattle.std.proofs.Common.{rules, ◌∙◌}
+use Rattle.grammar.specs.Theorems.{outcome_within}
+use Rattle.listing.specs.Refusals.{judged}
+use Rattle.listing.specs.Lines.{chomped}
+use Rattle.listing.proofs.Judged.{refusal_shown}
 use Rattle.listing.proofs.list.Goals as goal
 
-pub returns : goal.returns
-returns c = subst (λ l. IfOk c.list_rule.result (λ s. string_bytes s ≡ shown l)) c.rule_in.ensures c.list_rule.ensures
+pub returns-in-Err : goal.returns-in-Err
+returns-in-Err c =
+    let e = refusal_shown (outcome_within 16384 1024 2048 1024 2048 64 (chomped c.args.input.now)) c.in-Err.refusal (c.in-Err.ensures ∙ (λ i. judged 64 (c.rule_in.ensures i))) in
+    search rules
