@@ -1,5 +1,0 @@
-use Rattle.formatter.proofs.Passing.{read_rows_pass}
-use Rattle.formatter.proofs.read_rows_pass.Goals as goal
-
-pub returns : goal.returns
-returns c = read_rows_pass c.reads_exactly.ensures c.verdict_means.ensures
