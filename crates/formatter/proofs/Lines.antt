@@ -7,7 +7,6 @@ use Rattle.theory.specs.Emit.{Tables}
 use Rattle.grammar.specs.Reader.{Outcome, accepted, refused_at}
 use Rattle.checker.specs.declared.refusal.Refusal.{Refusal as TableRefusal}
 use Rattle.checker.specs.Verdicts.{verdict}
-use Rattle.text.specs.declared.refusal.WriteRefusal.{WriteRefusal}
 use Rattle.text.specs.declared.refusal.WriteRefusal.TheVariants.{NoRoom}
 use Rattle.text.specs.Trips.{text_of, fits, written, stored}
 use Rattle.listing.specs.declared.refusal.Refusal.{Refusal}

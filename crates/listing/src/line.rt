@@ -17,11 +17,12 @@ impl Listed for TypeRow {
     ghost line = { type_line };
 
     fn add_line(self, place: usize, out: &mut String) -> Result<(), AllocError> {
-        let word = type_word(self);
         writeln!(
             out,
-            "type {place}: {word} left {} right {}",
-            self.left, self.right
+            "type {place}: {} left {} right {}",
+            type_word(self),
+            self.left,
+            self.right
         )
     }
 }
@@ -30,13 +31,16 @@ impl Listed for TermRow {
     ghost line = { term_line };
 
     fn add_line(self, place: usize, out: &mut String) -> Result<(), AllocError> {
-        let word = term_word(self);
-        write!(
+        writeln!(
             out,
-            "term {place}: {word} type {} number {}",
-            self.ty, self.number
-        )?;
-        writeln!(out, " parts {} {} {}", self.a, self.b, self.c)
+            "term {place}: {} type {} number {} parts {} {} {}",
+            term_word(self),
+            self.ty,
+            self.number,
+            self.a,
+            self.b,
+            self.c
+        )
     }
 }
 
@@ -72,19 +76,21 @@ fn term_word(row: TermRow) -> &'static str
     match row.head() {
         Head::Number => "number",
         Head::Name => "name",
-        Head::Form(Form::Succ) => "s",
-        Head::Form(Form::Ifz) => "ifz",
-        Head::Form(Form::Lam) => "lam",
-        Head::Form(Form::Ap) => "ap",
-        Head::Form(Form::Fix) => "fix",
-        Head::Form(Form::Pair) => "pair",
-        Head::Form(Form::Fst) => "fst",
-        Head::Form(Form::Snd) => "snd",
-        Head::Form(Form::Add) => "add",
-        Head::Form(Form::Sub) => "sub",
-        Head::Form(Form::Mul) => "mul",
-        Head::Form(Form::Get) => "get",
-        Head::Form(Form::Fail) => "fail",
-        Head::Form(Form::Catch) => "catch",
+        Head::Form(form) => match form {
+            Form::Succ => "s",
+            Form::Ifz => "ifz",
+            Form::Lam => "lam",
+            Form::Ap => "ap",
+            Form::Fix => "fix",
+            Form::Pair => "pair",
+            Form::Fst => "fst",
+            Form::Snd => "snd",
+            Form::Add => "add",
+            Form::Sub => "sub",
+            Form::Mul => "mul",
+            Form::Get => "get",
+            Form::Fail => "fail",
+            Form::Catch => "catch",
+        },
     }
 }

@@ -19,10 +19,8 @@ fn listed(rt: &(impl Abort + AllocGlobal), rule: &[u8], lines: &str) -> Result<(
     let mut types = [TypeRow::ZERO; 8];
     let mut terms = [TermRow::ZERO; 8];
     let mut opens = [OpenForm::TermWord; 8];
-    let Counts { types: t, terms: u } = text::read(rule, &mut types, &mut terms, &mut opens)?;
-    assert!(rt; t <= 8);
-    assert!(rt; u <= 8);
-    let found = listing::list_rows(rt.alloc(), &types[0..t], &terms[0..u])?;
+    let made = text::read(rule, &mut types, &mut terms, &mut opens)?;
+    let found = listing::list_rows(rt.alloc(), &types[..made.types], &terms[..made.terms])?;
     assert_eq!(rt; found.as_str(), lines);
     Ok(())
 }

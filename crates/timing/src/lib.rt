@@ -11,15 +11,12 @@ fn again(
     terms: &mut [TermRow],
     opens: &mut [OpenForm],
 ) -> u64 {
-    let mut made: u64 = 0;
-    for _ in 0..times {
-        if let Ok(counts) = text::read(rule, types, terms, opens) {
-            made = made
-                .wrapping_add(counts.types as u64)
-                .wrapping_add(counts.terms as u64);
-        }
-    }
-    made
+    (0..times)
+        .filter_map(|_| text::read(rule, types, terms, opens).ok())
+        .fold(0, |made: u64, counts| {
+            made.wrapping_add(counts.types as u64)
+                .wrapping_add(counts.terms as u64)
+        })
 }
 
 // Reads `rule` so many times, with so many type rows and term rows at most, and answers how many rows the readings
@@ -29,13 +26,11 @@ pub extern "C" fn read_again(rule: &[u8], times: u32, types: u32, terms: u32) ->
     let mut type_rows = [TypeRow::ZERO; MOST_TYPES];
     let mut term_rows = [TermRow::ZERO; MOST_TERMS];
     let mut opens = [OpenForm::TermWord; 4_096];
-    let t = (types as usize).min(MOST_TYPES);
-    let u = (terms as usize).min(MOST_TERMS);
     again(
         rule,
         times,
-        &mut type_rows[0..t],
-        &mut term_rows[0..u],
+        &mut type_rows[..(types as usize).min(MOST_TYPES)],
+        &mut term_rows[..(terms as usize).min(MOST_TERMS)],
         &mut opens,
     )
 }

@@ -1,4 +1,4 @@
-use Rattle.std.proofs.Common.{rules, ◌≡◌, ◌∙◌, ap, sym, Ok, Err, take, length}
+use Rattle.std.proofs.Common.{rules, ◌≡◌, ◌∙◌, ap, Ok, take, length}
 use Rattle.theory.specs.Emit.{Tables}
 use Rattle.checker.specs.Verdicts.{verdict}
 use Rattle.listing.specs.Refusals.{judged_tables, judged}
