@@ -1,10 +1,10 @@
 -- Counting how often each row is a part.
-use Rattle.std.proofs.Common.{◌≡◌, ℕ, zero, suc, ◌+◌, ◌*◌, ◌<◌, ◌≤◌, Bool, true, false, cond, ◌&&◌, eqb, ltb, List, [], ◌∷◌, length, get_or, take, replicate, sum_by, sym, refl, ap, ◌∙◌, arith}
+use Rattle.std.proofs.Common.{◌≡◌, ℕ, zero, suc, ◌+◌, ◌*◌, ◌<◌, ◌≤◌, Bool, true, false, cond, ◌&&◌, eqb, ltb, List, [], ◌∷◌, length, get_or, set, take, replicate, sum_by, sym, refl, ap, ◌∙◌, ⊎_elim, add-zero, add-one, arith}
 use Rattle.std.specs.List.{AllByRecursion as All}
-use Rattle.std.proofs.lemmas.Bool.{eq-eqb, ne_eqb}
+use Rattle.std.proofs.lemmas.Bool.{eq-eqb, ne_eqb, eqb-true, eqb-false, cases_Bool}
 use Rattle.std.proofs.lemmas.List.Sums.{sum_by-cons, sum_by_more}
 use Rattle.std.proofs.ByRecursion.{sum_by_le}
-use Rattle.std.proofs.lemmas.List.{length-take-le, take_all}
+use Rattle.std.proofs.lemmas.List.{length-take-le, take_all, get_or-set_same, get_or-set_other}
 use Rattle.rows.specs.declared.tables.TermRow.{TermRow}
 use Rattle.rows.specs.declared.forms.Form.{Form}
 use Rattle.rows.specs.declared.forms.Form.TheVariants.{Succ, Ifz, Lam, Ap, Fix, Pair, Fst, Snd, Add, Sub, Mul, Get, Fail, Catch}
@@ -87,3 +87,33 @@ once_yes es i j x h e o = eq-eqb (uses j es) 1 (sym (ap (uses j) (take_all i es 
 
 pub once_no : (es : List TermRow) (i j x : ℕ) → length es ≤ i → x ≡ uses j (take i es) → (x ≡ 1 → ⊥) → used_once es j ≡ false
 once_no es i j x h e o = ne_eqb (uses j es) 1 (λ f. o (e ∙ ap (uses j) (take_all i es h) ∙ f))
+
+pub times_small : (j : ℕ) (xs : List ℕ) → times j xs ≤ length xs
+times_small j [] = omega arith
+times_small j (x ∷ xs) = omega (arith, one_small (eqb j x), times_small j xs)
+
+pub times_more : (j : ℕ) (xs : List ℕ) (k : ℕ) → k < length xs → times j (take (k + 1) xs) ≡ times j (take k xs) + cond (eqb j (get_or xs k 0)) 1 0
+times_more j [] k h = absurd (omega arith)
+times_more j (x ∷ xs) zero h = omega arith
+times_more j (x ∷ xs) (suc k) h =
+    let e : times j (take (suc k) xs) ≡ times j (take k xs) + cond (eqb j (get_or xs k 0)) 1 0 = ap (λ n. times j (take n xs)) (sym (add-one k)) ∙ times_more j xs k (omega arith) in
+    let more : cond (eqb j x) 1 0 + times j (take (suc k) xs) ≡ cond (eqb j x) 1 0 + times j (take k xs) + cond (eqb j (get_or xs k 0)) 1 0 = omega (arith, e) in
+    ap (λ n. times j (take n (x ∷ xs))) (add-one (suc k)) ∙ more
+
+-- one more at a place
+pub marked_here : (cs : List ℕ) (q : ℕ) → q < length cs → (j : ℕ) → get_or (set cs q (get_or cs q 0 + 1)) j 0 ≡ get_or cs j 0 + cond (eqb j q) 1 0
+marked_here cs q h j =
+    ⊎_elim
+    (λ (e : eqb j q ≡ true).
+    let z = eqb-true j q e in
+    ap (λ k. get_or (set cs q (get_or cs q 0 + 1)) k 0) z ∙ get_or-set_same cs q _ 0 h ∙ (λ i. get_or cs (sym z i) 0 + cond (sym e i) 1 0))
+    (λ (e : eqb j q ≡ false). get_or-set_other cs q j _ 0 (eqb-false j q e) ∙ sym (add-zero (get_or cs j 0)) ∙ ap (λ b. get_or cs j 0 + cond b 1 0) (sym e))
+    (cases_Bool (eqb j q))
+
+-- the uses before a row and its own parts, all of them counted, are the uses up to it
+pub uses_row : (es : List TermRow) (i : ℕ) (d : TermRow) → i < length es → (n : ℕ) → n ≡ arity (get_or es i d).kind
+    → (k : ℕ) → length (take n ((get_or es i d).a ∷ (get_or es i d).b ∷ (get_or es i d).c ∷ [])) ≤ k
+    → (j : ℕ) → uses j (take i es) + times j (take k (take n ((get_or es i d).a ∷ (get_or es i d).b ∷ (get_or es i d).c ∷ []))) ≡ uses j (take (i + 1) es)
+uses_row es i d lt n e k h j =
+    let r = get_or es i d in
+    ap (λ xs. uses j (take i es) + times j xs) (take_all k _ h ∙ ap (λ m. take m (r.a ∷ r.b ∷ r.c ∷ [])) e ∙ sym (parts_are r)) ∙ sym (uses_more es i d lt j)

@@ -6,9 +6,11 @@ pub mod Deeps
 pub mod Shallows
 pub mod Sights
 pub mod Typings
+pub mod Parts
 pub mod Sheets
 pub mod Lifts
 pub mod ByKind
+pub mod Heads
 pub mod TypeLaws
 pub mod TermLaws
 pub mod TableLaws

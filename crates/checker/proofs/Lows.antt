@@ -1,5 +1,5 @@
 -- A pass for the lowest place that is not good.
-use Rattle.std.proofs.Common.{◌≡◌, ℕ, zero, suc, ◌+◌, ◌<◌, ◌≤◌, Bool, true, false, cond, Some, None, Option, sym, refl, ⊎_elim, add-one, arith}
+use Rattle.std.proofs.Common.{◌≡◌, ℕ, zero, suc, ◌+◌, ◌<◌, ◌≤◌, Bool, true, false, cond, Some, None, Option, MatchOption, sym, refl, ⊎_elim, add-one, arith}
 use Rattle.std.proofs.lemmas.Bool.{cases_lt}
 use Rattle.checker.specs.Lowest.{first_of, lowest}
 
@@ -45,3 +45,8 @@ module _ (good : ℕ → Bool) where
   pub lowest_none : (n : ℕ) → ((k : ℕ) → k < n → good k ≡ true) → lowest good n ≡ None
   lowest_none zero h = refl
   lowest_none (suc n) h = rw (lowest_none n (λ k lt. h k (omega arith)), h n (omega arith)) refl
+
+-- what a search from the lowest place on finds
+pub lowest_found : (good : ℕ → Bool) (n : ℕ) (r : Option ℕ) → MatchOption r ((k : ℕ) → 0 ≤ k → k < n → good k ≡ true) (λ i. (0 ≤ i) × (i < n) × (good i ≡ false) × ((k : ℕ) → 0 ≤ k → k < i → good k ≡ true)) → r ≡ lowest good n
+lowest_found good n None h = sym (lowest_none good n (λ k lt. h k (omega arith) lt))
+lowest_found good n (Some i) h = lowest_here good i n h.1 (lowest_none good i (λ k lt. h.3 k (omega arith) lt)) h.2

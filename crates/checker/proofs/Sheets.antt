@@ -50,6 +50,13 @@ fits most n e =
     let z = eqb-false n 0 t.0 in
     (omega (arith, z), ltb-false most n t.1)
 
+pub sizes_fit : (s : Tables) → sizes s ≡ None → (0 < length s.0) × (length s.0 ≤ 1024) × (0 < length s.1) × (length s.1 ≤ 2048)
+sizes_fit s e =
+    let o = or_parts (misfit most_types (length s.0)) (misfit most_terms (length s.1)) (own_none _ (refusal TableSize 0) e) in
+    let t = fits most_types (length s.0) o.0 in
+    let u = fits most_terms (length s.1) o.1 in
+    (t.0, t.1, u.0, u.1)
+
 pub kept : (s : Tables) → rows_verdict s ≡ None → Kept s
 kept s e =
     let types_low = at_row BadType (lowest (good_type s.0) (length s.0)) in
@@ -58,14 +65,12 @@ kept s e =
     let a = first_none (sizes s) (first_of types_low (first_of terms_low parts_low)) e in
     let b = first_none types_low (first_of terms_low parts_low) a.1 in
     let c = first_none terms_low parts_low b.1 in
-    let o = or_parts (misfit most_types (length s.0)) (misfit most_terms (length s.1)) (own_none _ (refusal TableSize 0) a.0) in
-    let t = fits most_types (length s.0) o.0 in
-    let u = fits most_terms (length s.1) o.1 in
+    let f = sizes_fit s a.0 in
     record {
-      some_types = t.0;
-      few_types = t.1;
-      some_terms = u.0;
-      few_terms = u.1;
+      some_types = f.0;
+      few_types = f.1;
+      some_terms = f.2;
+      few_terms = f.3;
       types = no_fault BadType _ b.0;
       terms = no_fault BadTerm _ c.0;
       parts = no_fault PartUse _ c.1;

@@ -4,6 +4,7 @@ pub mod RowTests
 pub mod Descents
 pub mod Depths
 pub mod Types
+pub mod Shapes
 pub mod Verdicts
 pub mod Contexts
 pub mod Theorems

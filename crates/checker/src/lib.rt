@@ -1,15 +1,13 @@
 // Checks the two tables of a rule: a sheet that passes keeps the laws of tables, and its rule has the type nat.
 #![tactic(auto)]
 
-mod depth;
 mod forms;
-mod parts;
 mod refusal;
 mod rules;
 mod sheet;
+mod tables;
 mod theorems;
 mod type_rules;
-mod types;
 mod verdict;
 
 pub use refusal::{Fault, Refusal};

@@ -1,6 +1,7 @@
 // What can be wrong with two tables.
 ghost use Rattle.std.specs.Prelude.{◌≡◌};
 ghost use Rattle.checker.specs.Faults.{number as number_of};
+ghost use Rattle.checker.specs.Verdicts.{answer, at_row};
 
 #[derive(Clone, Copy, PartialEq, Eq, Debug)]
 pub enum Fault {
@@ -34,4 +35,11 @@ impl Fault {
 pub struct Refusal {
     pub fault: Fault,
     pub row: u32,
+}
+
+// Refuses a fault at a row, if there is one.
+pub(crate) fn refuse(fault: Fault, row: Option<u32>) -> Result<(), Refusal>
+    ensures { result ≡ answer (at_row fault row) }
+{
+    row.map_or(Ok(()), |row| Err(Refusal { fault, row }))
 }

@@ -1,47 +1,45 @@
-// The laws of type rows and of term rows, row by row.
+// The laws of the tables' sizes, and of type rows and of term rows, row by row.
 ghost use Rattle.std.specs.Prelude.{◌≡◌, ◌<◌, ◌≤◌, ◌&&◌, length};
-ghost use Rattle.rows.specs.Rows.{row_alike, row_place};
 ghost use Rattle.checker.specs.Lowest.{lowest};
+ghost use Rattle.checker.specs.declared.refusal.Fault.TheVariants.{TableSize};
+ghost use Rattle.checker.specs.Verdicts.{misfit, sizes, at_row};
 ghost use Rattle.checker.specs.RowTests.{compound, good_type, placed, parts_placed, good_row, good_term};
 
-use crate::forms::{BOTH, TO, arity_of, has_type};
-use rows::{TOP, TermRow, TypeRow};
+use crate::forms::{arity_of, has_type};
+use rows::{Form, Head, MOST_TERMS, MOST_TYPES, TOP, TermRow, TypeRow, find_type};
 
-fn is_same(x: TypeRow, y: TypeRow) -> bool
-    ensures { result ≡ row_alike x y }
+// Whether a table has no row, or too many.
+fn is_misfit(most: usize, n: usize) -> bool
+    ensures { result ≡ misfit most n }
 {
-    x.kind == y.kind && x.left == y.left && x.right == y.right
+    n == 0 || most < n
 }
 
-// The place of the first equal row, or the number of rows.
-fn place_of(row: TypeRow, types: &[TypeRow]) -> usize
-    ensures { result ≡ row_place row types.now }
+// Row 0, if a table has no row or too many.
+pub(crate) fn bad_size(types: &[TypeRow], terms: &[TermRow]) -> Option<u32>
+    ensures { at_row TableSize result ≡ sizes (types.now, terms.now) }
 {
-    for (i, t) in types.iter().enumerate() {
-        if is_same(row, *t) {
-            return i;
-        }
-    }
-    types.len()
+    let misfit = is_misfit(MOST_TYPES, types.len()) || is_misfit(MOST_TERMS, terms.len());
+    misfit.then_some(0)
 }
 
 // Whether a row is a function or a pair of types at rows before p.
 fn is_compound(p: u32, r: TypeRow) -> bool
     ensures { result ≡ compound p r }
 {
-    (r.kind == TO || r.kind == BOTH) && r.left < p && r.right < p
+    r.shape().is_some() && r.left < p && r.right < p
 }
 
 // Whether row p keeps the laws of type rows.
-fn is_good_type(types: &[TypeRow], p: usize) -> bool
-    requires { (p < length types.now) × (length types.now ≤ 1024) }
+fn is_good_type(types: &[TypeRow], p: u32) -> bool
+    requires { p < length types.now }
     ensures { result ≡ good_type types.now p }
 {
-    let r = types[p];
+    let r = types[p as usize];
     if p == 0 {
-        is_same(r, TypeRow::ZERO)
+        r == TypeRow::ZERO
     } else {
-        is_compound(p as u32, r) && place_of(r, types) == p
+        is_compound(p, r) && find_type(types, r) == p as usize
     }
 }
 
@@ -50,12 +48,7 @@ pub(crate) fn bad_type(types: &[TypeRow]) -> Option<u32>
     requires { length types.now ≤ 1024 }
     ensures { result ≡ lowest (good_type types.now) (length types.now) }
 {
-    for p in 0..types.len() {
-        if !is_good_type(types, p) {
-            return Some(p as u32);
-        }
-    }
-    None
+    (0..types.len() as u32).find(|&p| !is_good_type(types, p))
 }
 
 fn is_placed(used: bool, x: u32, limit: u32) -> bool
@@ -67,17 +60,21 @@ fn is_placed(used: bool, x: u32, limit: u32) -> bool
 fn has_parts_placed(p: u32, r: TermRow) -> bool
     ensures { result ≡ parts_placed p r }
 {
-    let parts = arity_of(r.kind);
-    is_placed(0 < parts, r.a, p) && is_placed(1 < parts, r.b, p) && is_placed(2 < parts, r.c, p)
+    let parts = arity_of(r);
+    [r.a, r.b, r.c]
+        .iter()
+        .enumerate()
+        .all(|(i, part)| is_placed(i < parts, *part, p))
 }
 
 // Whether row p keeps the laws of term rows, beside n type rows.
 fn is_good_row(n: u32, p: u32, r: TermRow) -> bool
     ensures { result ≡ good_row n p r }
 {
-    r.kind <= 15
-        && is_placed(r.kind < 2, r.number, TOP + 1)
-        && is_placed(has_type(r.kind), r.ty, n)
+    let is_form = matches!(r.head(), Head::Form(_));
+    r.kind <= Form::Catch.kind()
+        && is_placed(!is_form, r.number, TOP + 1)
+        && is_placed(has_type(r), r.ty, n)
         && has_parts_placed(p, r)
 }
 
@@ -86,10 +83,5 @@ pub(crate) fn bad_term(n: u32, terms: &[TermRow]) -> Option<u32>
     requires { length terms.now ≤ 2048 }
     ensures { result ≡ lowest (good_term n terms.now) (length terms.now) }
 {
-    for p in 0..terms.len() {
-        if !is_good_row(n, p as u32, terms[p]) {
-            return Some(p as u32);
-        }
-    }
-    None
+    (0..terms.len() as u32).find(|&p| !is_good_row(n, p, terms[p as usize]))
 }

@@ -10,20 +10,9 @@ use crate::sheet::Passed;
 use crate::verdict::judge;
 use rows::{TermRow, TypeRow};
 
-static NAT: [TypeRow; 1] = [TypeRow {
-    kind: 0,
-    left: 0,
-    right: 0,
-}];
+static NAT: [TypeRow; 1] = [TypeRow::ZERO];
 
-static ZERO: [TermRow; 1] = [TermRow {
-    kind: 0,
-    ty: 0,
-    number: 0,
-    a: 0,
-    b: 0,
-    c: 0,
-}];
+static ZERO: [TermRow; 1] = [TermRow::ZERO];
 
 impl<'t> Passed<'t> {
     // The built-in rule `0`.

@@ -1,4 +1,0 @@
-use Rattle.checker.proofs.types.+type_of.Given as goal
-
-abbrev pub decreases-type_of : goal.decreases-type_of
-decreases-type_of l = l.p
