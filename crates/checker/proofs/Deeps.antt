@@ -1,9 +1,7 @@
 -- Binders above the rows of a term.
-use Rattle.std.proofs.Common.{◌≡◌, ℕ, ◌+◌, ◌<◌, ◌≤◌, true, cond, ltb, List, [], length, get_or, take, None, Option, sym, refl, ap, ◌∙◌, arith}
+use Rattle.std.proofs.Common.{◌≡◌, ℕ, ◌+◌, ◌<◌, true, cond, ltb, List, [], length, get_or, take, None, Option, refl, ap, ◌∙◌}
 use Rattle.std.proofs.lemmas.List.{get_or-take}
-use Rattle.std.proofs.lemmas.Bool.{cond-true, cond-false, lt-ltb, le-ltb}
 use Rattle.rows.specs.declared.tables.TermRow.{TermRow}
-use Rattle.checker.specs.Lowest.{first_of, lower}
 use Rattle.checker.specs.Descents.{rows_as}
 use Rattle.checker.specs.RowTests.{no_row, arity, parts_placed, PartsPlaced}
 use Rattle.checker.specs.Depths.{opens, deep_form, deep_row, deep_at}
@@ -25,13 +23,3 @@ deep_step limit es good i d lt =
     ∙ ap (λ n. deep_form limit (λ p. get_or (take i all) p (λ _. None)) n (get_or es i no_row) d) (length_before (deep_row limit) es i lt)
     ∙ same_form limit (λ p. get_or (take i all) p (λ _. None)) (deep_at limit es) i (get_or es i no_row) d (good i lt)
     (λ p x h. ap (λ h'. h' x) (get_or-take i all p (λ _. None) h))
-
--- a part that a row has, and one that it has not
-pub some_part : {A : Type 0} (k n m : ℕ) (x x' y : A) → m ≡ n → k < m → x ≡ x' → x ≡ cond (ltb k n) x' y
-some_part k n m x x' y e h same = same ∙ sym (cond-true (ltb k n) x' y (lt-ltb k n (omega arith)))
-
-pub no_part : {A : Type 0} (k n m : ℕ) (x y : A) → m ≡ n → m ≤ k → y ≡ cond (ltb k n) x y
-no_part k n m x y e h = sym (cond-false (ltb k n) x y (le-ltb k n (omega arith)))
-
-pub parts_joined : (own x y z x' y' z' l m r : Option ℕ) → x ≡ x' → y ≡ y' → z ≡ z' → l ≡ lower y z → m ≡ lower x l → r ≡ first_of m own → r ≡ first_of (lower x' (lower y' z')) own
-parts_joined own x y z x' y' z' l m r a b c p q s = s ∙ ap (λ o. first_of o own) (q ∙ ap (lower x) (p ∙ ap (λ o. lower o z) b ∙ ap (lower y') c) ∙ ap (λ o. lower o (lower y' z')) a)

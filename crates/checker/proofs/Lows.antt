@@ -1,12 +1,9 @@
 -- A pass for the lowest place that is not good.
-use Rattle.std.proofs.Common.{◌≡◌, ℕ, zero, suc, ◌+◌, ◌<◌, ◌≤◌, Bool, true, false, cond, Some, None, Option, MatchOption, sym, refl, ⊎_elim, add-one, arith}
+use Rattle.std.proofs.Common.{◌≡◌, ℕ, zero, suc, ◌<◌, ◌≤◌, Bool, true, false, cond, Some, None, Option, MatchOption, sym, refl, ⊎_elim, arith}
 use Rattle.std.proofs.lemmas.Bool.{cases_lt}
 use Rattle.checker.specs.Lowest.{first_of, lowest}
 
 module _ (good : ℕ → Bool) where
-  pub lowest_more : (i : ℕ) → lowest good i ≡ None → good i ≡ true → lowest good (i + 1) ≡ None
-  lowest_more i e g = rw (add-one i, e, g) refl
-
   at : (i : ℕ) → lowest good i ≡ None → good i ≡ false → lowest good (suc i) ≡ Some i
   at i e g = rw (e, g) refl
 
@@ -20,9 +17,6 @@ module _ (good : ℕ → Bool) where
 
   pub lowest_here : (i n : ℕ) → i < n → lowest good i ≡ None → good i ≡ false → Some i ≡ lowest good n
   lowest_here i n h e g = sym (keeps n (suc i) i (at i e g) (omega arith))
-
-  pub lowest_end : (i n : ℕ) → n ≤ i → i ≤ n → lowest good i ≡ None → None ≡ lowest good n
-  lowest_end i n h k e = let z : i ≡ n = omega arith in sym (rw z at e)
 
   -- below the end of a pass that finds none, each is good
   pub lowest_good : (n : ℕ) → lowest good n ≡ None → (k : ℕ) → k < n → good k ≡ true

@@ -103,7 +103,3 @@ module _ (limit : ℕ) (es : List TermRow) (good : PartsPlaced es) (i d : ℕ) (
   room_c h =
       let s = shallow_c limit es good i d lt none m counted h in
       (s.0, s.1, shallow limit es good (get_or es i no_row).c (d + 1) (omega (arith, s.0)) s.1)
-
--- the same of equal limits and depths
-pub moved : (es : List TermRow) (p limit limit' d d' : ℕ) → limit' ≡ limit → d' ≡ d → deep_at limit es p d ≡ None → deep_at limit' es p d' ≡ None
-moved es p limit limit' d d' e f h = ap (λ l. deep_at l es p d') e ∙ ap (deep_at limit es p) f ∙ h

@@ -1,5 +1,5 @@
 -- The type of a row by those of its parts.
-use Rattle.std.proofs.Common.{◌≡◌, ℕ, ◌<◌, true, cond, ltb, List, [], ◌∷◌, length, get_or, take, Ok, Option, ap, ◌∙◌}
+use Rattle.std.proofs.Common.{◌≡◌, ℕ, ◌<◌, true, cond, ltb, List, [], ◌∷◌, length, get_or, take, Ok, ap, ◌∙◌}
 use Rattle.std.proofs.lemmas.List.{get_or-take}
 use Rattle.rows.specs.declared.tables.TypeRow.{TypeRow}
 use Rattle.rows.specs.declared.tables.TermRow.{TermRow}
@@ -26,8 +26,3 @@ type_step ts es good i names lt =
     ∙ ap (λ n. type_form ts (λ p. get_or (take i all) p (λ _. Ok 0)) n (get_or es i no_row) names) (length_before (type_row ts) es i lt)
     ∙ same_form ts (λ p. get_or (take i all) p (λ _. Ok 0)) (type_at ts es) i (get_or es i no_row) names (good i lt)
     (λ p l h. ap (λ h'. h' l) (get_or-take i all p (λ _. Ok 0) h))
-
--- the parts put together
-pub type_joins : (ts : List TypeRow) (i : ℕ) (r : TermRow) (named named' : Option ℕ) (x x' y y' z z' o : Found) → named ≡ named' → x ≡ x' → y ≡ y' → z ≡ z' → o ≡ joined ts i r named x y z → o ≡ joined ts i r named' x' y' z'
-type_joins ts i r named named' x x' y y' z z' o n a b c e =
-    e ∙ ap (λ v. joined ts i r v x y z) n ∙ ap (λ v. joined ts i r named' v y z) a ∙ ap (λ v. joined ts i r named' x' v z) b ∙ ap (λ v. joined ts i r named' x' y' v) c

@@ -51,12 +51,14 @@ pub(crate) fn bad_type(types: &[TypeRow]) -> Option<u32>
     (0..types.len() as u32).find(|&p| !is_good_type(types, p))
 }
 
+// Whether a field that is used is below the limit, and any other is 0.
 fn is_placed(used: bool, x: u32, limit: u32) -> bool
     ensures { result ≡ placed used x limit }
 {
     if used { x < limit } else { x == 0 }
 }
 
+// Whether the parts of row p are earlier rows.
 fn has_parts_placed(p: u32, r: TermRow) -> bool
     ensures { result ≡ parts_placed p r }
 {

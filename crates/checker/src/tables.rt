@@ -1,4 +1,4 @@
-// Two tables of a few rows, each of which keeps the laws of rows.
+// Two tables with a term row, but no more than there may be, and where the parts of each are earlier rows.
 ghost use Rattle.std.specs.Prelude.{◌≡◌, ◌-◌, ◌<◌, ◌≤◌, length, Some, IfOk, IfErr};
 ghost use Rattle.checker.specs.declared.refusal.Fault.TheVariants.{PartUse};
 ghost use Rattle.checker.specs.Lowest.{lowest};
@@ -23,7 +23,8 @@ pub(crate) struct Tables<'t> {
 }
 
 impl<'t> Tables<'t> {
-    // What remains to be checked after it is how often each row is a part, and the rows' depths and types.
+    // The tables, if their sizes and each of their rows keep the laws; else the first of these laws that is broken, and its
+    // lowest row. What is left of the laws of tables is how often each row is a part.
     pub(crate) fn new(types: &'t [TypeRow], terms: &'t [TermRow]) -> Result<Tables<'t>, Refusal>
         ensures ok { IfOk result (λ s. (s.types.now ≡ types.now) × (s.terms.now ≡ terms.now)) }
         ensures left { IfOk result (λ s. rows_verdict (types.now, terms.now) ≡ at_row PartUse (lowest (used_once terms.now) (length terms.now - 1))) }

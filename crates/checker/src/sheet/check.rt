@@ -10,18 +10,14 @@ use crate::sheet::Passed;
 use crate::verdict::judge;
 use rows::{TermRow, TypeRow};
 
-static NAT: [TypeRow; 1] = [TypeRow::ZERO];
-
-static ZERO: [TermRow; 1] = [TermRow::ZERO];
-
 impl<'t> Passed<'t> {
     // The built-in rule `0`.
     pub fn builtin() -> Passed<'t>
         ensures { tables result ≡ (nat_row ∷ [], leaf_row 0 0 ∷ []) }
     {
         Passed {
-            types: &NAT,
-            terms: &ZERO,
+            types: &[TypeRow::ZERO],
+            terms: &[TermRow::ZERO],
         }
     }
 

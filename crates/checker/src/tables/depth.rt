@@ -7,7 +7,7 @@ use crate::forms::arity_of;
 use crate::tables::Tables;
 use crate::type_rules::bound_at;
 
-// The lower of two places.
+// The lower of two places. `min` of the options would not do, since None stands first in their order.
 pub(crate) fn lower_of(x: Option<u32>, y: Option<u32>) -> Option<u32>
     ensures { result ≡ lower x y }
 {

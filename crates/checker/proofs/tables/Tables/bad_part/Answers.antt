@@ -11,6 +11,10 @@ use Rattle.checker.proofs.tables.Tables.bad_part.Goals as goal
 pub loop-r-init : goal.loop-r-init
 loop-r-init c = (refl, λ j. zero_count 2048 j)
 
+pub loop-r-preserved : goal.loop-r-preserved
+loop-r-preserved c =
+    (c.loop-part.invariant.0, λ j. c.loop-part.invariant.1 j ∙ uses_row c.args.self.now.terms.now c.loop-r.r-index no_row c.loop-r-test.true c.arity_of.result c.arity_of.ensures.value c.loop-part.part-index c.loop-part-test.false j)
+
 pub overflow_add-counts : goal.overflow_add-counts
 overflow_add-counts c =
     let es = c.args.self.now.terms.now in
@@ -32,10 +36,6 @@ loop-part-preserved c =
       length-set c.loop-part.counts _ _ ∙ c.loop-part.invariant.0,
       λ j. omega (arith, marked_here c.loop-part.counts (get_or parts k 0) (omega (arith, h.1, b, c.loop-part.invariant.0, c.loop-r-test.true, c.args.self.now.few)) j, c.loop-part.invariant.1 j, times_more j parts k c.loop-part-test.true),
     )
-
-pub loop-r-preserved : goal.loop-r-preserved
-loop-r-preserved c =
-    (c.loop-part.invariant.0, λ j. c.loop-part.invariant.1 j ∙ uses_row c.args.self.now.terms.now c.loop-r.r-index no_row c.loop-r-test.true c.arity_of.result c.arity_of.ensures.value c.loop-part.part-index c.loop-part-test.false j)
 
 pub returns : goal.returns
 returns c =
