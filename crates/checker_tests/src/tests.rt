@@ -1,13 +1,7 @@
 // The tests.
-use crate::{
-    TERMS, chain_of_terms, chain_of_types, form, judged, judged_text, leaf, rows_held, shape,
-};
-use checker::{Fault, Refusal};
-use rows::{TermRow, TypeRow};
-
-fn refused(fault: Fault, row: u32) -> Result<(), Refusal> {
-    Err(Refusal { fault, row })
-}
+use crate::{chain_of_terms, chain_of_types, judged, judged_text, refused, rows_held};
+use checker::Fault;
+use rows::{Form, MOST_TERMS, Shape, TermRow, TypeRow};
 
 #[test]
 fn texts(rt: HostRuntime) {
@@ -71,16 +65,16 @@ fn every_form(rt: HostRuntime) {
 #[test]
 fn sizes(rt: HostRuntime) {
     let types = chain_of_types();
-    let terms = chain_of_terms(leaf(0, 7), 2);
+    let terms = chain_of_terms(TermRow::number(7), Form::Succ);
     let more_types = [TypeRow::ZERO; 1_025];
     let more_terms = [TermRow::ZERO; 2_049];
     assert_eq!(rt; judged(&types, &terms, 0), Ok(()));
     assert_eq!(rt;
-        judged(&types[0..0], &terms, 0),
+        judged(&types[..0], &terms, 0),
         refused(Fault::TableSize, 0)
     );
     assert_eq!(rt;
-        judged(&types, &terms[0..0], 0),
+        judged(&types, &terms[..0], 0),
         refused(Fault::TableSize, 0)
     );
     assert_eq!(rt;
@@ -95,18 +89,21 @@ fn sizes(rt: HostRuntime) {
 
 #[test]
 fn type_rows(rt: HostRuntime) {
-    let terms = [leaf(0, 7)];
+    let terms = [TermRow::number(7)];
     let mut types = chain_of_types();
-    types[0] = shape(1, 0, 0);
+    types[0] = TypeRow::new(Shape::To, 0, 0);
     assert_eq!(rt; judged(&types, &terms, 0), refused(Fault::BadType, 0));
     let mut equal = chain_of_types();
-    equal[1_023] = shape(1, 0, 0);
+    equal[1_023] = TypeRow::new(Shape::To, 0, 0);
     assert_eq!(rt; judged(&equal, &terms, 0), refused(Fault::BadType, 1_023));
     let mut own = chain_of_types();
-    own[1_023] = shape(2, 1_023, 0);
+    own[1_023] = TypeRow::new(Shape::Both, 1_023, 0);
     assert_eq!(rt; judged(&own, &terms, 0), refused(Fault::BadType, 1_023));
     let mut kind = chain_of_types();
-    kind[2] = shape(3, 0, 0);
+    kind[2] = TypeRow {
+        kind: 3,
+        ..TypeRow::ZERO
+    };
     kind[3] = TypeRow::ZERO;
     assert_eq!(rt; judged(&kind, &terms, 0), refused(Fault::BadType, 2));
 }
@@ -114,29 +111,43 @@ fn type_rows(rt: HostRuntime) {
 #[test]
 fn term_rows(rt: HostRuntime) {
     let types = chain_of_types();
-    assert_eq!(rt; judged(&types, &[leaf(0, 999_999_999)], 0), Ok(()));
+    assert_eq!(rt; judged(&types, &[TermRow::number(999_999_999)], 0), Ok(()));
     assert_eq!(rt;
-        judged(&types, &[leaf(0, 1_000_000_000)], 0),
+        judged(&types, &[TermRow::number(1_000_000_000)], 0),
         refused(Fault::BadTerm, 0)
     );
     assert_eq!(rt;
-        judged(&types, &[form(16, 0, 0, 0, 0)], 0),
+        judged(
+            &types,
+            &[TermRow {
+                kind: 16,
+                ..TermRow::ZERO
+            }],
+            0
+        ),
         refused(Fault::BadTerm, 0)
     );
     assert_eq!(rt;
-        judged(&types, &[form(0, 1, 0, 0, 0)], 0),
+        judged(
+            &types,
+            &[TermRow {
+                ty: 1,
+                ..TermRow::ZERO
+            }],
+            0
+        ),
         refused(Fault::BadTerm, 0)
     );
     assert_eq!(rt;
-        judged(&types, &[form(2, 0, 0, 0, 0)], 0),
+        judged(&types, &[TermRow::form(Form::Succ, 0, [0, 0, 0])], 0),
         refused(Fault::BadTerm, 0)
     );
     assert_eq!(rt;
-        judged(&types, &[form(14, 1_024, 0, 0, 0)], 0),
+        judged(&types, &[TermRow::form(Form::Fail, 1_024, [0, 0, 0])], 0),
         refused(Fault::BadTerm, 0)
     );
-    let mut terms = chain_of_terms(leaf(0, 7), 2);
-    terms[2_047] = form(2, 0, 2_046, 1, 0);
+    let mut terms = chain_of_terms(TermRow::number(7), Form::Succ);
+    terms[2_047] = TermRow::form(Form::Succ, 0, [2_046, 1, 0]);
     assert_eq!(rt; judged(&types, &terms, 0), refused(Fault::BadTerm, 2_047));
 }
 
@@ -144,15 +155,19 @@ fn term_rows(rt: HostRuntime) {
 fn parts(rt: HostRuntime) {
     let types = [TypeRow::ZERO];
     assert_eq!(rt;
-        judged(&types, &[leaf(0, 1), leaf(0, 2)], 0),
+        judged(&types, &[TermRow::number(1), TermRow::number(2)], 0),
         refused(Fault::PartUse, 0)
     );
     assert_eq!(rt;
-        judged(&types, &[leaf(0, 1), form(10, 0, 0, 0, 0)], 0),
+        judged(
+            &types,
+            &[TermRow::number(1), TermRow::form(Form::Add, 0, [0, 0, 0])],
+            0
+        ),
         refused(Fault::PartUse, 0)
     );
-    let mut terms = chain_of_terms(leaf(0, 7), 2);
-    terms[2_047] = leaf(0, 7);
+    let mut terms = chain_of_terms(TermRow::number(7), Form::Succ);
+    terms[2_047] = TermRow::number(7);
     assert_eq!(rt; judged(&types, &terms, 0), refused(Fault::PartUse, 2_046));
 }
 
@@ -161,31 +176,31 @@ fn binders(rt: HostRuntime) {
     let types = [TypeRow::ZERO];
     assert_eq!(rt; judged_text(b"(fix nat #0)", 0), refused(Fault::TooDeep, 0));
     assert_eq!(rt; judged_text(b"(fix nat #0)", 1), Ok(()));
-    let mut terms = chain_of_terms(leaf(0, 7), 2);
-    terms[2_045] = leaf(0, 7);
-    terms[2_046] = leaf(0, 7);
-    terms[2_047] = form(3, 0, 2_044, 2_045, 2_046);
+    let mut terms = chain_of_terms(TermRow::number(7), Form::Succ);
+    terms[2_045] = TermRow::number(7);
+    terms[2_046] = TermRow::number(7);
+    terms[2_047] = TermRow::form(Form::Ifz, 0, [2_044, 2_045, 2_046]);
     assert_eq!(rt; judged(&types, &terms, 0), refused(Fault::TooDeep, 2_046));
     assert_eq!(rt; judged(&types, &terms, 1), Ok(()));
-    let nested = chain_of_terms(leaf(1, 63), 6);
-    assert_eq!(rt; judged(&types, &nested[0..65], 64), Ok(()));
+    let nested = chain_of_terms(TermRow::name(63), Form::Fix);
+    assert_eq!(rt; judged(&types, &nested[..65], 64), Ok(()));
     assert_eq!(rt;
-        judged(&types, &nested[0..65], 63),
+        judged(&types, &nested[..65], 63),
         refused(Fault::TooDeep, 0)
     );
 }
 
 #[test]
 fn last_rows(rt: HostRuntime) {
-    let types = [TypeRow::ZERO, shape(1, 0, 0)];
-    let mut untyped = chain_of_terms(leaf(0, 7), 2);
-    untyped[2_047] = form(8, 0, 2_046, 0, 0);
+    let types = [TypeRow::ZERO, TypeRow::new(Shape::To, 0, 0)];
+    let mut untyped = chain_of_terms(TermRow::number(7), Form::Succ);
+    untyped[2_047] = TermRow::form(Form::Fst, 0, [2_046, 0, 0]);
     assert_eq!(rt; judged(&types, &untyped, 0), refused(Fault::Untyped, 2_047));
-    let mut function = chain_of_terms(leaf(0, 7), 2);
-    function[2_047] = form(4, 1, 2_046, 0, 0);
+    let mut function = chain_of_terms(TermRow::number(7), Form::Succ);
+    function[2_047] = TermRow::form(Form::Lam, 1, [2_046, 0, 0]);
     assert_eq!(rt; judged(&types, &function, 1), refused(Fault::NotNat, 2_047));
     assert_eq!(rt;
-        judged(&types, &[form(14, 1, 0, 0, 0)], 0),
+        judged(&types, &[TermRow::form(Form::Fail, 1, [0, 0, 0])], 0),
         refused(Fault::NotNat, 0)
     );
 }
@@ -193,32 +208,50 @@ fn last_rows(rt: HostRuntime) {
 // Lawful tables whose rows are not in the order in which a text is read.
 #[test]
 fn other_orders(rt: HostRuntime) {
-    let types = [TypeRow::ZERO, shape(2, 0, 0), shape(1, 0, 0)];
-    let swapped = [leaf(0, 1), leaf(0, 2), form(11, 0, 1, 0, 0)];
+    let types = [
+        TypeRow::ZERO,
+        TypeRow::new(Shape::Both, 0, 0),
+        TypeRow::new(Shape::To, 0, 0),
+    ];
+    let swapped = [
+        TermRow::number(1),
+        TermRow::number(2),
+        TermRow::form(Form::Sub, 0, [1, 0, 0]),
+    ];
     assert_eq!(rt; judged(&types, &swapped, 0), Ok(()));
     let mixed = [
-        leaf(0, 1),
-        leaf(0, 2),
-        form(2, 0, 1, 0, 0),
-        form(13, 0, 0, 0, 0),
-        form(10, 0, 3, 2, 0),
+        TermRow::number(1),
+        TermRow::number(2),
+        TermRow::form(Form::Succ, 0, [1, 0, 0]),
+        TermRow::form(Form::Get, 0, [0, 0, 0]),
+        TermRow::form(Form::Add, 0, [3, 2, 0]),
     ];
     assert_eq!(rt; judged(&types, &mixed, 0), Ok(()));
     // the second part of ifz, at row 0, is under no name; the third, at row 1, is under one
-    let unbound = [leaf(1, 0), leaf(1, 0), leaf(0, 0), form(3, 0, 2, 0, 1)];
+    let unbound = [
+        TermRow::name(0),
+        TermRow::name(0),
+        TermRow::number(0),
+        TermRow::form(Form::Ifz, 0, [2, 0, 1]),
+    ];
     assert_eq!(rt; judged(&types, &unbound, 1), refused(Fault::Untyped, 0));
     assert_eq!(rt; judged(&types, &unbound, 0), refused(Fault::TooDeep, 1));
-    let bound = [leaf(1, 0), leaf(0, 3), leaf(0, 0), form(3, 0, 2, 1, 0)];
+    let bound = [
+        TermRow::name(0),
+        TermRow::number(3),
+        TermRow::number(0),
+        TermRow::form(Form::Ifz, 0, [2, 1, 0]),
+    ];
     assert_eq!(rt; judged(&types, &bound, 1), Ok(()));
 }
 
 // The place holds the tables that passed last.
 #[test]
 fn places(rt: HostRuntime) {
-    let types = [TypeRow::ZERO, shape(1, 0, 0)];
-    let rule = [leaf(1, 0), form(6, 0, 0, 0, 0)];
-    let name = [leaf(1, 0)];
-    let number = [leaf(0, 5)];
+    let types = [TypeRow::ZERO, TypeRow::new(Shape::To, 0, 0)];
+    let rule = [TermRow::name(0), TermRow::form(Form::Fix, 0, [0, 0, 0])];
+    let name = [TermRow::name(0)];
+    let number = [TermRow::number(5)];
     assert_eq!(rt; rows_held(&types, &name, &name), (1, 1));
     assert_eq!(rt; rows_held(&types, &rule, &name), (2, 2));
     assert_eq!(rt; rows_held(&types, &rule, &number), (2, 1));
@@ -228,8 +261,8 @@ fn places(rt: HostRuntime) {
 #[test]
 fn deepest(rt: HostRuntime) {
     let types = [TypeRow::ZERO];
-    let nested = chain_of_terms(leaf(1, 2_046), 6);
-    assert_eq!(rt; judged(&types, &nested, TERMS), Ok(()));
+    let nested = chain_of_terms(TermRow::name(2_046), Form::Fix);
+    assert_eq!(rt; judged(&types, &nested, MOST_TERMS), Ok(()));
     assert_eq!(rt; judged(&types, &nested, 2_047), Ok(()));
     assert_eq!(rt; judged(&types, &nested, 2_046), refused(Fault::TooDeep, 0));
 }
