@@ -45,7 +45,7 @@ module _ (s : Tables) (k : Kept s) (sight : ℕ) where
   deep_own p l = cond (ltb sight (length l)) (Some p) None
 
   first_depth : (r : TermRow) (l : List ℕ) → length l + cond (opens r.kind) 1 0 ≡ length (under (bound s.0 r) l)
-  first_depth r l = omega (arith, length_under (bound s.0 r) l, opens_bound s.0 r (bound s.0 r) refl)
+  first_depth r l = omega (arith, length_under (bound s.0 r) l, opens_bound s.0 r)
 
   third_depth : (l : List ℕ) → length l + 1 ≡ length (0 ∷ l)
   third_depth l = omega arith

@@ -11,11 +11,11 @@ use Rattle.checker.specs.Lowest.{first_of, lower}
 use Rattle.checker.specs.RowTests.{no_row, arity, parts_placed, PartsPlaced}
 use Rattle.checker.specs.Depths.{opens, deep_at}
 use Rattle.checker.specs.Shapes.{bound_at}
-use Rattle.checker.specs.Types.{Found, bound, under, fault, type_in, settled, own_type, type_at}
+use Rattle.checker.specs.Types.{Found, under, fault, type_in, settled, own_type, type_at}
 use Rattle.checker.proofs.Counts.{zero_count, arity_small}
 use Rattle.checker.proofs.Deeps.{deep_step}
 use Rattle.checker.proofs.Placing.{a_below, b_below, c_below}
-use Rattle.checker.proofs.Shallows.{shallow, opens_bound, room_a, shallow_b, room_c}
+use Rattle.checker.proofs.Shallows.{first_none, lower_none, shallow, opens_bound}
 use Rattle.checker.proofs.Typings.{type_step}
 
 abbrev pub part : TermRow → ℕ → ℕ
@@ -49,6 +49,14 @@ lower_three f (suc (suc (suc (suc n)))) h = absurd (omega arith)
 
 pub lowered_more : (f : ℕ → Option ℕ) (n : ℕ) (x y : Option ℕ) → x ≡ lowered f n → y ≡ f n → lower x y ≡ lowered f (n + 1)
 lowered_more f n x y d e = (λ j. lower (d j) (e j)) ∙ ap (lowered f) (sym (add-one n))
+
+lowered_none : (f : ℕ → Option ℕ) (n : ℕ) → lowered f n ≡ None → (k : ℕ) → k < n → f k ≡ None
+lowered_none f zero e k h = absurd (omega arith)
+lowered_none f (suc n) e k h =
+    let parts = lower_none (lowered f n) (f n) e in
+    ⊎_elim (λ (s : k < n). lowered_none f n parts.0 k s)
+    (λ (s : n ≤ k). let z : k ≡ n = omega arith in rw z parts.1)
+    (cases_lt k n)
 
 or_first : (x y : Option ℕ) → option_or x y ≡ first_of x y
 or_first None y = refl
@@ -85,7 +93,7 @@ module _ (limit : ℕ) (ts : List TypeRow) (es : List TermRow) (good : PartsPlac
       let n = arity r.kind in
       let own : Option ℕ = cond (ltb limit d) (Some i) None in
       ap (λ o. first_of o own) (lower_three (λ k. deep_at limit es (part r k) (d + opened ts r k)) n (arity_small r.kind))
-      ∙ ap (λ m. first_of (lower (cond (ltb 0 n) (deep_at limit es r.a (d + m)) None) (lower (cond (ltb 1 n) (deep_at limit es r.b (d + 0)) None) (cond (ltb 2 n) (deep_at limit es r.c (d + 1)) None))) own) (opens_bound ts r (bound ts r) refl)
+      ∙ ap (λ m. first_of (lower (cond (ltb 0 n) (deep_at limit es r.a (d + m)) None) (lower (cond (ltb 1 n) (deep_at limit es r.b (d + 0)) None) (cond (ltb 2 n) (deep_at limit es r.c (d + 1)) None))) own) (opens_bound ts r)
       ∙ ap (λ m. first_of (lower (cond (ltb 0 n) (deep_at limit es r.a (d + cond (opens r.kind) 1 0)) None) (lower (cond (ltb 1 n) (deep_at limit es r.b m) None) (cond (ltb 2 n) (deep_at limit es r.c (d + 1)) None))) own) (add-zero d)
       ∙ sym (deep_step limit es good i d lt)
 
@@ -96,18 +104,13 @@ module _ (limit : ℕ) (ts : List TypeRow) (es : List TermRow) (good : PartsPlac
     pub fits : d + opened ts (get_or es i no_row) k ≤ limit
 
   pub room_part : deep_at limit es i d ≡ None → (k : ℕ) → k < arity (get_or es i no_row).kind → Room k
-  room_part none zero h =
+  room_part none k h =
       let r = get_or es i no_row in
-      let s = room_a limit es good i d lt none (arity r.kind) refl ts (bound ts r) refl h in
-      record { below = s.0; shallow = s.1; fits = s.2 }
-  room_part none (suc zero) h =
-      let r = get_or es i no_row in
-      let s = shallow_b limit es good i d lt none (arity r.kind) refl h in
-      record { below = s.0; shallow = ap (deep_at limit es r.b) (add-zero d) ∙ s.1; fits = omega (arith, shallow limit es good i d lt none) }
-  room_part none (suc (suc zero)) h =
-      let s = room_c limit es good i d lt none (arity (get_or es i no_row).kind) refl h in
-      record { below = s.0; shallow = s.1; fits = s.2 }
-  room_part none (suc (suc (suc k))) h = absurd (omega (arith, arity_small (get_or es i no_row).kind))
+      let f = λ (k : ℕ). deep_at limit es (part r k) (d + opened ts r k) in
+      let parts = first_none (lowered f (arity r.kind)) (cond (ltb limit d) (Some i) None) (deep_parts ∙ none) in
+      let below = part_below i r (good i lt) k h in
+      let none_k = lowered_none f (arity r.kind) parts.0 k h in
+      record { below = below; shallow = none_k; fits = shallow limit es good (part r k) (d + opened ts r k) (omega (arith, below)) none_k }
 
 fault_cond : (b : Bool) (o : Found) → cond b (fault o) None ≡ fault (cond b o (Ok 0))
 fault_cond true o = refl
