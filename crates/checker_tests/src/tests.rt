@@ -182,10 +182,12 @@ fn binders(rt: HostRuntime) {
     terms[2_047] = TermRow::form(Form::Ifz, 0, [2_044, 2_045, 2_046]);
     assert_eq!(rt; judged(&types, &terms, 0), refused(Fault::TooDeep, 2_046));
     assert_eq!(rt; judged(&types, &terms, 1), Ok(()));
-    let chain = chain_of_terms(TermRow::name(63), Form::Fix);
-    let nested = &chain[..65];
-    assert_eq!(rt; judged(&types, nested, 64), Ok(()));
-    assert_eq!(rt; judged(&types, nested, 63), refused(Fault::TooDeep, 0));
+    let nested = chain_of_terms(TermRow::name(63), Form::Fix);
+    assert_eq!(rt; judged(&types, &nested[0..65], 64), Ok(()));
+    assert_eq!(rt;
+        judged(&types, &nested[0..65], 63),
+        refused(Fault::TooDeep, 0)
+    );
 }
 
 #[test]
