@@ -25,6 +25,7 @@ use Rattle.checker.proofs.Sheets.{Kept, kept, kept_placed}
 use Rattle.checker.proofs.TableLaws.{lawful, keeps, kept_so}
 use Rattle.checker.proofs.TypeRows.{ty_at, nat_at, one_place}
 use Rattle.checker.proofs.Typings.{type_step}
+use Rattle.checker.proofs.Parts.{fault_cond}
 use Rattle.checker.proofs.Sound.{err_ok, at, context}
 use Rattle.checker.proofs.Complete.{Typed, solid, fill, H}
 use Rattle.checker.proofs.Typed.{sound, complete}
@@ -120,10 +121,6 @@ fault_settled p None t = refl
 fault_owns : (p : ℕ) (t : Option ℕ) (q : ℕ) → fault (settled p None t) ≡ Some q → p ≡ q
 fault_owns p (Some t) q e = absurd (some_none q (sym e))
 fault_owns p None q e = some_same e
-
-fault_cond : (b : Bool) (o : Found) → fault (cond b o (Ok 0)) ≡ cond b (fault o) None
-fault_cond true o = refl
-fault_cond false o = refl
 
 fills : (ts : List TypeRow) (K : Ty) (l : List ℕ) → Fills (context ts l) (fill ts K l)
 fills ts K [] = tt

@@ -112,7 +112,7 @@ module _ (limit : ℕ) (ts : List TypeRow) (es : List TermRow) (good : PartsPlac
       let none_k = lowered_none f (arity r.kind) parts.0 k h in
       record { below = below; shallow = none_k; fits = shallow limit es good (part r k) (d + opened ts r k) (omega (arith, below)) none_k }
 
-fault_cond : (b : Bool) (o : Found) → cond b (fault o) None ≡ fault (cond b o (Ok 0))
+pub fault_cond : (b : Bool) (o : Found) → fault (cond b o (Ok 0)) ≡ cond b (fault o) None
 fault_cond true o = refl
 fault_cond false o = refl
 
@@ -169,7 +169,7 @@ module _ (ts : List TypeRow) (es : List TermRow) (good : PartsPlaced es) (i : �
       let name = slice_get names r.number in
       let d = subst (λ m. Done (found ts es i names) m low types) e d' in
       let t = type_found d in
-      let f : (k : ℕ) → cond (ltb k (arity r.kind)) (fault (found ts es i names k)) None ≡ fault (part_found k) = λ k. fault_cond (ltb k (arity r.kind)) (found ts es i names k) in
+      let f : (k : ℕ) → cond (ltb k (arity r.kind)) (fault (found ts es i names k)) None ≡ fault (part_found k) = λ k. sym (fault_cond (ltb k (arity r.kind)) (found ts es i names k)) in
       ap (λ o. settled i o (own_type ts r name (get_or types 0 0) (get_or types 1 0) (get_or types 2 0))) (d.lowest ∙ lower_three (λ k. fault (found ts es i names k)) (arity r.kind) (arity_small r.kind))
       ∙ (λ j. settled i (lower (f 0 j) (lower (f 1 j) (f 2 j))) (own_type ts r name (t 0 j) (t 1 j) (t 2 j)))
       ∙ sym (type_step ts es good i names lt)
