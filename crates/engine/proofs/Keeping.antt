@@ -1,5 +1,6 @@
--- What a step keeps of a run.
-use Rattle.std.proofs.Common.{◌≡◌, ℕ, ◌+◌, ◌-◌, ◌<◌, ◌≤◌, true, ◌≢◌, List, [], map, length, sym, refl, ap, ◌∙◌, subst, arith}
+-- What a step keeps of a run, and what it comes to in the run that it stands for.
+use Rattle.std.proofs.Common.{◌≡◌, ℕ, ◌+◌, ◌-◌, ◌<◌, ◌≤◌, true, false, ◌≢◌, cond, List, [], map, length, Some, None, Option, sym, refl, ap, ◌∙◌, subst, arith, le-ltb}
+use Rattle.std.proofs.lemmas.Bool.{lt-leb}
 use Rattle.std.proofs.lemmas.List.{length-map}
 use Rattle.rows.specs.declared.tables.TermRow.{TermRow}
 use Rattle.rows.specs.Meanings.{Meaning}
@@ -9,112 +10,181 @@ use Rattle.theory.specs.Typing.{◌⊢◌∶◌}
 use Rattle.theory.specs.Emit.{Tables}
 use Rattle.theory.specs.Stands.{rule_of}
 use Rattle.theory.specs.Laws as Tables
+use Rattle.checker.specs.Sheets.{tables}
 use Rattle.machine.specs.StateTyping.{WellTyped}
+use Rattle.machine.specs.Next as Next
 use Rattle.machine.specs.Laws as Machine
 use Rattle.runs.specs.Standings as R
-use Rattle.runs.specs.Standings.{Limits, going}
+use Rattle.runs.specs.Standings.{Status, number, failed, spent, tall, full, going}
 use Rattle.runs.specs.Advances as A
+use Rattle.runs.specs.Calls.{Running, now_at}
 use Rattle.environments.specs.Nodes.{nodes_of}
 use Rattle.environments.specs.NodeTerms.{terms_of}
 use Rattle.environments.specs.Modes as EM
-use Rattle.environments.specs.States.{State, step, start, enter}
+use Rattle.environments.specs.States.{State, Taken, step, start, enter}
 use Rattle.environments.specs.Stands.{stands}
 use Rattle.environments.specs.Fits.{fits}
-use Rattle.environments.specs.Runs.{Standing, standing, status, opening, onto, once}
+use Rattle.environments.specs.Runs.{Standing, standing, status, held, ended_or, opening, onto, if-going, once}
 use Rattle.environments.specs.Laws.{Laws, KeptFor}
 use Rattle.engine.specs.declared.state.Mode.{Mode}
 use Rattle.engine.specs.declared.control.Machine.{Machine as Engine}
+use Rattle.engine.specs.declared.control.Program.{Program}
+use Rattle.engine.specs.declared.run.Run.{Run}
 use Rattle.engine.specs.View.{view_frame, view_cell, mode_of}
-use Rattle.engine.specs.Stores.{frames_in, cells_in, entered}
-use Rattle.engine.specs.Choices.{state_of, Went, Stayed}
-use Rattle.engine.specs.Runs.{standing_of, Moved}
-use Rattle.engine.proofs.Returning.{enter_stands}
-use Rattle.engine.proofs.Under.{went_going, blocked_halts, once_goes, once_stays, moved}
+use Rattle.engine.specs.Stores.{frames_in, cells_in}
+use Rattle.engine.specs.Acts.{begun}
+use Rattle.engine.specs.Choices.{state_of, adds_of, makes_of, Went, Blocked, Stepped, at_number, at_failure, too_tall, too_full}
+use Rattle.engine.specs.Runs.{limits_of, standing_of, Moved, Rested}
+use Rattle.engine.proofs.Standing.{enter_stands}
+
+clash : {P : Type 0} → ◌≡◌ {A = ℕ} 0 1 → P
+clash e = absurd (omega arith)
+
+-- ---- a run just opened
 
 module _ (laws : Laws) (s : Tables) (law : Tables.Lawful s) where
-  -- the state fits, and there is a typing of what it stands for
-  abbrev pub Sound : State → Type 0
-  Sound p = (fits (terms_of (nodes_of s)) (nodes_of s) p ≡ true) × ∥ WellTyped (stands (terms_of (nodes_of s)) p) ∥₁
-
-  -- ---- a run just opened
-
   -- the machine stands where the environment machine starts
-  pub begun : (m : Engine) (last : ℕ) → m.mode ≡ entered s.1 [] last 0 → last ≡ length s.1 - 1 → frames_in m.store ≡ [] → cells_in m.store ≡ []
-      → state_of s m ≡ start (nodes_of s)
-  begun m last at is no_frames no_cells =
-      let n = is ∙ ap (λ (x : ℕ). x - 1) (sym (laws.nodes_stand s law).count) in
-      let x = ap (mode_of s) at ∙ enter_stands s [] last 0 ∙ ap (λ (p : ℕ). EM.Eval (enter (nodes_of s) [] p 0)) n in
-      λ i. record { mode = x i; stack = map (view_frame s) (no_frames i); cells = map (view_cell s) (no_cells i) }
+  begun_stands : standing_of s (begun s.1 (length s.1 - 1)) 0 ≡ opening (nodes_of s)
+  begun_stands =
+      let n = ap (λ (x : ℕ). x - 1) (sym (laws.nodes_stand s law).count) in
+      let x = enter_stands s [] (length s.1 - 1) 0 ∙ ap (λ (p : ℕ). EM.Eval (enter (nodes_of s) [] p 0)) n in
+      λ i. record { steps = 0; moves = 0; state = record { mode = x i; stack = []; cells = [] } }
 
-  pub opened : [] ⊢ rule_of s ∶ nat → (m : Engine) → state_of s m ≡ start (nodes_of s) → m.moves ≡ 0
-      → KeptFor (nodes_of s) (standing_of s m 0) (R.opening (rule_of s))
-  opened typed m is none =
+  pub open_kept : [] ⊢ rule_of s ∶ nat → (rows : List TermRow) → rows ≡ s.1 → (m : Engine) → m ≡ begun rows (length rows - 1) → KeptFor (nodes_of s) (standing_of s m 0) (R.opening (rule_of s))
+  open_kept typed rows is m at =
       let n = laws.nodes_stand s law in
       let some : 0 < length (nodes_of s) = omega (arith, n.count, law.term_count.0) in
       let k = laws.opens_kept (nodes_of s) n.lawful some ∣ subst (λ (e : Term). [] ⊢ e ∶ nat) (sym n.rule) typed ∣₁ in
-      let same : opening (nodes_of s) ≡ standing_of s m 0 = λ i. record { steps = 0; moves = sym none i; state = sym is i } in
-      subst (λ (r : Standing). KeptFor (nodes_of s) r (R.opening (rule_of s))) same (subst (λ (e : Term). KeptFor (nodes_of s) (opening (nodes_of s)) (R.opening e)) n.rule k)
+      let to = ap (λ (x : Engine). standing_of s x 0) (at ∙ ap (λ (l : List TermRow). begun l (length l - 1)) is) ∙ begun_stands in
+      subst (λ (x : Standing). KeptFor (nodes_of s) x (R.opening (rule_of s))) (sym to)
+      (subst (λ (e : Term). KeptFor (nodes_of s) (opening (nodes_of s)) (R.opening e)) n.rule k)
 
-  pub open_kept : [] ⊢ rule_of s ∶ nat → (m : Engine) (b : Mode) (rows : List TermRow) → rows ≡ s.1 → b ≡ entered rows [] (length rows - 1) 0
-      → m.mode ≡ b → m.moves ≡ 0 → frames_in m.store ≡ [] → cells_in m.store ≡ [] → KeptFor (nodes_of s) (standing_of s m 0) (R.opening (rule_of s))
-  open_kept typed m b rows is at mode none no_frames no_cells =
-      opened typed m (begun m (length s.1 - 1) (mode ∙ at ∙ ap (λ (l : List TermRow). entered l [] (length l - 1) 0) is) refl no_frames no_cells) none
+-- ---- a step
 
-  -- ---- a step
+-- what is known at a step of the run r over the counter t
+pub record Known (r : Run) (t : Meaning) : Type 0 where
+  pub laws : Laws
+  pub machine_laws : Machine.Laws
+  pub law : Tables.Lawful (tables r.sheet)
+  pub lawful : Meanings.Lawful t
 
-  module _ (M : Meaning) (lawful : Meanings.Lawful M) (L : Limits) (m m' : Engine) (n : ℕ) (sound : Sound (state_of s m)) where
-    abbrev Made : Type 0
-    Made = Went s L.frames L.cells (state_of s m) m.moves (step (nodes_of s) M (state_of s m)) (state_of s m') m'.moves
+abbrev pub program_of : Run → Program
+program_of r = record { sheet = r.sheet; limits = r.limits }
 
-    -- where the run stands
-    abbrev S : R.Standing
-    S = standing (terms_of (nodes_of s)) (standing_of s m n)
+module _ {r : Run} {t : Meaning} (k : Known r t) where
+  abbrev p : Program
+  p = program_of r
 
-    once_kept : KeptFor (nodes_of s) (once (nodes_of s) M L (standing_of s m n)) (A.once M L S)
-    once_kept = laws.once_kept (nodes_of s) (laws.nodes_stand s law).lawful M lawful L (standing_of s m n) sound.0 sound.1
+  abbrev m : Engine
+  m = r.machine
 
-    pub made_kept : Made → n < L.fuel → KeptFor (nodes_of s) (standing_of s m' (n + 1)) (A.once M L S)
-    made_kept w lasts =
-        let g = went_going s L (standing_of s m n) m.moves (step (nodes_of s) M (state_of s m)) (state_of s m') m'.moves w lasts in
-        let to : onto (standing_of s m n) (step (nodes_of s) M (state_of s m)) ≡ standing_of s m' (n + 1) = λ i. record { steps = n + 1; moves = sym w.moved i; state = sym w.leads i } in
-        subst (λ (r : Standing). KeptFor (nodes_of s) r (A.once M L S)) (once_goes s M L (standing_of s m n) g ∙ to) once_kept
+  abbrev n : ℕ
+  n = r.steps
 
-    pub made_moves : Machine.Laws → Made → n < L.fuel
-        → Moved M (record { limits = L; standing = S }) (record { limits = L; standing = standing (terms_of (nodes_of s)) (standing_of s m' (n + 1)) })
-    made_moves mlaws w lasts =
-        let g = went_going s L (standing_of s m n) m.moves (step (nodes_of s) M (state_of s m)) (state_of s m') m'.moves w lasts in
-        let j = laws.judges (nodes_of s) (laws.nodes_stand s law).lawful L (standing_of s m n) sound.0 in
-        moved mlaws M L S (standing (terms_of (nodes_of s)) (standing_of s m' (n + 1))) (made_kept w lasts).agrees refl (sym j ∙ g)
+  abbrev s : Tables
+  s = tables r.sheet
+
+  abbrev L : R.Limits
+  L = limits_of r.limits
+
+  -- the run that a machine after i steps stands for
+  abbrev run : Engine → ℕ → Running
+  run x i = record { limits = L; standing = standing (terms_of (nodes_of s)) (standing_of s x i) }
+
+  -- where it is, once more
+  abbrev further : Running
+  further = now_at (run m n) (A.once t L (run m n).standing)
+
+  abbrev Going : Type 0
+  Going = status (nodes_of s) L (standing_of s m n) ≡ going
+
+  judged : status (nodes_of s) L (standing_of s m n) ≡ R.status L (run m n).standing
+  judged = k.laws.judges (nodes_of s) (k.laws.nodes_stand s k.law).lawful L (standing_of s m n) r.fitting
+
+  once_kept : KeptFor (nodes_of s) (once (nodes_of s) t L (standing_of s m n)) (A.once t L (run m n).standing)
+  once_kept = k.laws.once_kept (nodes_of s) (k.laws.nodes_stand s k.law).lawful t k.lawful L (standing_of s m n) r.fitting r.typing
+
+  -- ---- a step was made
+
+  module _ (m' : Engine) (w : Went p t m m') (lasts : n < p.limits.fuel) where
+    goes : Going
+    goes =
+        let a = lt-leb p.limits.fuel n lasts in
+        let b = le-ltb p.limits.frames (length (map (view_frame s) (frames_in m.store)) + adds_of p m) (omega (arith, w.for_frames, length-map (frames_in m.store) (view_frame s))) in
+        let c = le-ltb p.limits.cells (length (map (view_cell s) (cells_in m.store)) + makes_of p m) (omega (arith, w.for_cells, length-map (cells_in m.store) (view_cell s))) in
+        w.no_end (held (nodes_of s) L (standing_of s m n)) ∙ (λ i. cond (a i) spent (cond (b i) tall (cond (c i) full going)))
+
+    pub made_kept : KeptFor (nodes_of s) (standing_of s m' (n + 1)) (A.once t L (run m n).standing)
+    made_kept =
+        let to : onto (standing_of s m n) (step (nodes_of s) t (state_of s m)) ≡ standing_of s m' (n + 1) = λ i. record { steps = n + 1; moves = sym w.moved i; state = sym w.leads i } in
+        let on = ap (λ (u : Status). if-going u (standing_of s m n) (onto (standing_of s m n) (step (nodes_of s) t (state_of s m)))) goes in
+        subst (λ (x : Standing). KeptFor (nodes_of s) x (A.once t L (run m n).standing)) (on ∙ to) once_kept
+
+    pub made_once : run m' (n + 1) ≡ further
+    made_once = λ i. record { limits = L; standing = made_kept.agrees i }
+
+    -- a standing whose steps grew is that of a step
+    taken : (o : Option Next.Taken) → Next.next t (run m n).standing.state ≡ o → (run m' (n + 1)).standing ≡ A.stepped (run m n).standing o → Moved t (run m n) (run m' (n + 1))
+    taken (Some u) is e =
+        record {
+          was_going = sym judged ∙ goes;
+          moves = u.0;
+          cells = u.1;
+          step = (k.machine_laws.step_computed t u.0 u.1 (run m n).standing.state (run m' (n + 1)).standing.state).1 (is ∙ sym (ap (λ (x : R.Standing). Some (u.0, u.1, x.state)) e));
+          steps_count = refl;
+          moves_count = ap (λ (x : R.Standing). x.moves) e;
+          cells_count = ap (λ (x : R.Standing). x.cells) e;
+          limits_stay = refl;
+        }
+    taken None is e = let z = ap (λ (x : R.Standing). x.steps) e in absurd (omega (arith, z))
+
+    pub made_moves : Moved t (run m n) (run m' (n + 1))
+    made_moves =
+        let S = (run m n).standing in
+        taken (Next.next t S.state) refl (made_kept.agrees ∙ ap (λ (u : Status). A.if-going u S (A.stepped S (Next.next t S.state))) (sym judged ∙ goes))
 
     -- the frames and the cells are within the limits, and one move at most was made
-    pub made_fits : Made → (length (frames_in m'.store) ≤ L.frames) × (length (cells_in m'.store) ≤ L.cells) × (m'.moves ≤ m.moves + 1)
-    made_fits w =
-        let grows = laws.step_grows (nodes_of s) M (state_of s m) in
-        let a = ap (λ (p : State). length p.stack) w.leads in
-        let b = ap (λ (p : State). length p.cells) w.leads in (
-          omega (arith, a, grows.frames, w.for_frames, length-map (frames_in m'.store) (view_frame s)),
-          omega (arith, b, grows.cells, grows.made, w.for_cells, length-map (cells_in m'.store) (view_cell s)),
+    pub made_fits : (length (frames_in m'.store) ≤ p.limits.frames) × (length (cells_in m'.store) ≤ p.limits.cells) × (m'.moves ≤ m.moves + 1)
+    made_fits =
+        let grows = k.laws.step_grows (nodes_of s) t (state_of s m) in
+        let a = ap (λ (q : State). length q.stack) w.leads in
+        let b = ap (λ (q : State). length q.cells) w.leads in
+        let f = length-map (frames_in m.store) (view_frame s) in
+        let c = length-map (cells_in m.store) (view_cell s) in (
+          omega (arith, a, f, grows.frames, w.for_frames, length-map (frames_in m'.store) (view_frame s)),
+          omega (arith, b, c, grows.cells, grows.made, w.for_cells, length-map (cells_in m'.store) (view_cell s)),
           omega (arith, w.moved, grows.moves),
         )
 
-    -- ---- no step
+  -- ---- no step
 
-    -- where the status is not going, the run stays
-    pub halted : status (nodes_of s) L (standing_of s m n) ≢ going → S ≡ A.once M L S
-    halted h = ap (standing (terms_of (nodes_of s))) (sym (once_stays s M L (standing_of s m n) h)) ∙ once_kept.agrees
+  -- at an end, or where a limit does not allow one
+  pub blocked : Blocked p m → Going → ⊥
+  blocked (at_number j a b) h = let e = sym (λ i. ended_or (mode_of s (a i)) (map (view_frame s) (b i)) (held (nodes_of s) L (standing_of s m n))) ∙ h in clash (cc)
+  blocked (at_failure a b) h = let e = sym (λ i. ended_or (mode_of s (a i)) (map (view_frame s) (b i)) (held (nodes_of s) L (standing_of s m n))) ∙ h in clash (cc)
+  blocked (too_tall b) h = let a = (k.laws.going_allows (nodes_of s) L (standing_of s m n) h).frames in absurd (omega (arith, a, b, length-map (frames_in m.store) (view_frame s)))
+  blocked (too_full b) h = let a = (k.laws.going_allows (nodes_of s) L (standing_of s m n) h).cells in absurd (omega (arith, a, b, length-map (cells_in m.store) (view_cell s)))
 
-    pub rests : status (nodes_of s) L (standing_of s m n) ≢ going → R.status L S ≢ going
-    rests h e = h (laws.judges (nodes_of s) (laws.nodes_stand s law).lawful L (standing_of s m n) sound.0 ∙ e)
+  -- where the fuel is spent
+  pub unfueled : n ≡ p.limits.fuel → Going → ⊥
+  unfueled e h = let a = (k.laws.going_allows (nodes_of s) L (standing_of s m n) h).fuel in absurd (omega (arith, a, e))
 
-    pub stayed_halts : Stayed s L.frames L.cells (state_of s m) m.moves (state_of s m') m'.moves → status (nodes_of s) L (standing_of s m n) ≢ going
-    stayed_halts st = blocked_halts s L (standing_of s m n) laws st.blocked
+  module _ (halts : Going → ⊥) where
+    halted : (u : Status) (x q : Standing) → u ≢ going → if-going u x q ≡ x
+    halted going x q h = absurd (h refl)
+    halted _ x q h = refl
 
-    pub stayed_same : Stayed s L.frames L.cells (state_of s m) m.moves (state_of s m') m'.moves → standing_of s m' n ≡ standing_of s m n
-    stayed_same st = λ i. record { steps = n; moves = st.unmoved i; state = st.same i }
+    pub still : run m n ≡ further
+    still =
+        let x = standing_of s m n in
+        let e = ap (standing (terms_of (nodes_of s))) (sym (halted (status (nodes_of s) L x) x (onto x (step (nodes_of s) t x.state)) halts)) ∙ once_kept.agrees in
+        λ i. record { limits = L; standing = e i }
 
-    pub stayed_fits : Stayed s L.frames L.cells (state_of s m) m.moves (state_of s m') m'.moves
-        → (length (frames_in m'.store) ≡ length (frames_in m.store)) × (length (cells_in m'.store) ≡ length (cells_in m.store))
-    stayed_fits st = (
-      sym (length-map (frames_in m'.store) (view_frame s)) ∙ ap (λ (p : State). length p.stack) st.same ∙ length-map (frames_in m.store) (view_frame s),
-      sym (length-map (cells_in m'.store) (view_cell s)) ∙ ap (λ (p : State). length p.cells) st.same ∙ length-map (cells_in m.store) (view_cell s),
-    )
+    pub rested : Rested (run m n) (run m n)
+    rested = record { halted = λ e. halts (judged ∙ e); stays = refl }
+
+  -- where none was made
+  pub stopped : (m' : Engine) → Stepped p t m m' false → (run m' n ≡ further) × Rested (run m n) (run m' n)
+  stopped m' (same, why) =
+      let halts = blocked why in
+      subst (λ (x : Engine). (run x n ≡ further) × Rested (run m n) (run x n)) (sym same) (still halts, rested halts)

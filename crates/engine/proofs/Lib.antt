@@ -1,12 +1,7 @@
 pub mod Stacks
 pub mod Names
-pub mod Choosing
-pub mod Evaluating
-pub mod Returning
-pub mod AnyValue
-pub mod Branching
-pub mod Ends
+pub mod Standing
+pub mod Stepping
 pub mod Suiting
-pub mod Under
 pub mod Keeping
 pub mod Meanings

@@ -19,50 +19,26 @@ clash : {P : Type 0} → ◌≡◌ {A = ℕ} 0 1 → P
 clash e = absurd (omega arith)
 
 module _ (laws : Laws) (s : Tables) (law : Tables.Lawful s) where
-  row_small : (k r e : ℕ) → mode_fits (nodes_of s) k (mode_of s (W.Eval r e)) ≡ true → r < 65536
-  row_small k r e h =
-      let there = (laws.row_there (nodes_of s) k r e h).1 in
+  pub small : (m : Mode) (fs : List Frame) (cs : List Cell) → fits (terms_of (nodes_of s)) (nodes_of s) (state_at s (mode_of s m) fs cs) ≡ true → Small m
+  small (W.Eval r e) fs cs h =
+      let k = length (map (view_cell s) cs) in
+      let there = (laws.row_there (nodes_of s) k r e (laws.fits_apart.out (terms_of (nodes_of s)) (nodes_of s) (state_at s (mode_of s (W.Eval r e)) fs cs) h).mode).1 in
       let low = ((laws.place_there (length (nodes_of s)) k r e).0 there).0 in
       omega (arith, low, (laws.nodes_stand s law).count, law.term_count.1)
-
-  pub small : (m : Mode) (fs : List Frame) (cs : List Cell) → fits (terms_of (nodes_of s)) (nodes_of s) (state_at s (mode_of s m) fs cs) ≡ true → Small m
-  small (W.Eval r e) fs cs h = row_small (length (map (view_cell s) cs)) r e (laws.fits_apart.out (terms_of (nodes_of s)) (nodes_of s) (state_at s (mode_of s (W.Eval r e)) fs cs) h).mode
-  small (W.Numeral n) fs cs h = tt
-  small (W.Number n) fs cs h = tt
-  small (W.Lam r e) fs cs h = tt
-  small (W.Pair i) fs cs h = tt
-  small W.Fail fs cs h = tt
+  small _ fs cs h = tt
 
 module _ (s : Tables) (cs : List Cell) where
   apply_suits : (m : Mode) (r e : ℕ) (k : List Frame) → Suited (state_at s (mode_of s m) (F.Apply r e ∷ k) cs) → suits m (Some (F.Apply r e)) ≡ true
-  apply_suits (W.Eval q x) r e k h = refl
-  apply_suits (W.Numeral n) r e k h = refl
   apply_suits (W.Number n) r e k h = let z = h.taken _ _ refl refl in clash (cc)
-  apply_suits (W.Lam q x) r e k h = refl
   apply_suits (W.Pair i) r e k h = let z = h.taken _ _ refl refl in clash (cc)
-  apply_suits W.Fail r e k h = refl
+  apply_suits _ r e k h = refl
 
   calc_suits : (m : Mode) (g : Frame) (k : List Frame) → Suited (state_at s (mode_of s m) (g ∷ k) cs) → (o r e : _) → g ≡ F.CalcFirst o r e → suits m (Some (F.CalcFirst o r e)) ≡ true
-  calc_suits (W.Eval q x) g k h o r e is = refl
-  calc_suits (W.Numeral n) g k h o r e is = refl
-  calc_suits (W.Number n) g k h o r e is = refl
   calc_suits (W.Lam q x) g k h o r e is = let z = h.taken _ _ refl (ap (λ (y : Frame). Some (view_frame s y)) is) in clash (cc)
   calc_suits (W.Pair i) g k h o r e is = let z = h.taken _ _ refl (ap (λ (y : Frame). Some (view_frame s y)) is) in clash (cc)
-  calc_suits W.Fail g k h o r e is = refl
+  calc_suits _ g k h o r e is = refl
 
   pub top_suits : (m : Mode) (fs : List Frame) → Suited (state_at s (mode_of s m) fs cs) → suits m (top_of fs) ≡ true
-  top_suits m [] h = refl
-  top_suits m (F.Blank a b c d ∷ k) h = refl
-  top_suits m (F.Succ ∷ k) h = refl
-  top_suits m (F.Fst ∷ k) h = refl
-  top_suits m (F.Snd ∷ k) h = refl
-  top_suits m (F.Get ∷ k) h = refl
-  top_suits m (F.Ifz r e ∷ k) h = refl
   top_suits m (F.Apply r e ∷ k) h = apply_suits m r e k h
-  top_suits m (F.Catch r e ∷ k) h = refl
-  top_suits m (F.PairFirst p e ∷ k) h = refl
-  top_suits m (F.PairNumber p n ∷ k) h = refl
-  top_suits m (F.PairLam p r e ∷ k) h = refl
-  top_suits m (F.PairPair p i ∷ k) h = refl
   top_suits m (F.CalcFirst o r e ∷ k) h = calc_suits m (F.CalcFirst o r e) k h o r e refl
-  top_suits m (F.CalcSecond o n ∷ k) h = refl
+  top_suits m _ h = refl

@@ -19,6 +19,13 @@ pub enum Value {
     Pair(u32),
 }
 
+// What a name is bound to: a number, or a row that is no name, with the environment of the names in it.
+#[derive(Clone, Copy)]
+pub enum Closure {
+    Number(u32),
+    Row { row: u32, env: u32 },
+}
+
 // A form with one part open. Rows are those of the parts that wait, but for ifz and pair, which have the form's own row.
 #[derive(Clone, Copy)]
 pub enum Frame {
@@ -37,6 +44,15 @@ pub enum Frame {
     PairPair { pair: u16, cell: u32 },
     CalcFirst { op: Op, row: u32, env: u32 },
     CalcSecond { op: Op, left: u32 },
+}
+
+impl Frame {
+    pub const BLANK: Frame = Frame::Blank {
+        a: 0,
+        b: 0,
+        c: 0,
+        d: 0,
+    };
 }
 
 #[derive(Clone, Copy)]
@@ -68,6 +84,17 @@ pub enum Cell {
     },
 }
 
+impl Cell {
+    pub const BLANK: Cell = Cell::Blank {
+        a: 0,
+        b: 0,
+        c: 0,
+        d: 0,
+        e: 0,
+        f: 0,
+    };
+}
+
 #[derive(Clone, Copy)]
 pub enum Mode {
     // evaluating a row that is no name
@@ -79,12 +106,4 @@ pub enum Mode {
     Lam { row: u16, env: u32 },
     Pair(u32),
     Fail,
-}
-
-// What a step leads to: a row to enter, a mode, or nothing where no step is made.
-#[derive(Clone, Copy)]
-pub enum Next {
-    Enter { row: u32, env: u32 },
-    At(Mode),
-    Stop,
 }

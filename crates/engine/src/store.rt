@@ -1,20 +1,30 @@
 // The frames and the cells of a run, each table with how much of it is in use.
-ghost use Rattle.std.specs.Prelude.{◌≡◌, ◌≤◌, length};
-
+use crate::limits::{MOST_CELLS, MOST_FRAMES};
 use crate::state::{Cell, Frame};
+use std::marker::Model;
 
 pub mod cells;
 pub mod frames;
 pub mod names;
 
+// The tables lie in the store, so that a run needs no heap.
 #[derive(Drop)]
 pub struct Store {
-    frames: [Frame; 512],
-    cells: [Cell; 2048],
+    frames: [Frame; MOST_FRAMES as usize],
+    cells: [Cell; MOST_CELLS as usize],
     height: u32,
     count: u32,
-    ghost framed: { length frames ≡ 512 },
-    ghost celled: { length cells ≡ 2048 },
-    ghost low: { height ≤ 512 },
-    ghost few: { count ≤ 2048 },
+}
+
+// Clauses see what is in use.
+impl Model for Store {
+    ghost use Rattle.std.specs.Prelude.{◌≤◌, reverse, take};
+    ghost use Rattle.engine.specs.Contents.{Contents};
+    ghost use Rattle.engine.specs.declared.limits.TheConstants.{MOST_FRAMES, MOST_CELLS};
+
+    ghost Value = { Contents };
+
+    ghost view = { λ t. record { frames = reverse (take t.height t.frames); cells = take t.count t.cells } };
+
+    ghost invariant = { λ t. (t.height ≤ MOST_FRAMES) × (t.count ≤ MOST_CELLS) };
 }

@@ -2,14 +2,7 @@
 ghost use Rattle.std.specs.Prelude.{◌≡◌, Some, None, Ok, Err};
 ghost use Rattle.engine.specs.Limits.{limit_fault, limit_number};
 
-use crate::limits::Limits;
-
-// The most that limits may be.
-pub const MOST_FUEL: u32 = 1_000_000_000;
-
-pub const MOST_FRAMES: u32 = 512;
-
-pub const MOST_CELLS: u32 = 2_048;
+use crate::limits::{Limits, MOST_CELLS, MOST_FRAMES, MOST_FUEL};
 
 // A limit that is above the most that there is.
 #[derive(Clone, Copy, PartialEq, Eq, Debug)]

@@ -4,29 +4,13 @@ ghost use Rattle.theory.specs.Stands.{rule_of};
 ghost use Rattle.checker.specs.Sheets.{tables};
 ghost use Rattle.runs.specs.Advances.{once as onward};
 ghost use Rattle.runs.specs.Calls.{start, now_at, Came};
-ghost use Rattle.engine.specs.Stores.{entered};
 ghost use Rattle.engine.specs.Runs.{limits_of, view, Advanced};
 
-use crate::control::Machine;
+use crate::control::{Machine, Program};
 use crate::limits::Limits;
 use crate::run::Run;
-use crate::state::Mode;
-use crate::store::Store;
-use crate::store::names::row_at;
 use checker::Passed;
 use counters::Counter;
-use rows::TermRow;
-
-// Where a run begins: at the last row, in the empty environment.
-fn beginning(rows: &[TermRow], last: u32) -> Mode
-    ensures { result ≡ entered rows.now [] last 0 }
-{
-    if row_at(rows, last).kind == 1 {
-        Mode::Numeral(0)
-    } else {
-        Mode::Eval { row: last, env: 0 }
-    }
-}
 
 impl<'t> Run<'t> {
     // Opens a run of a passed sheet, and uses neither the sheet nor the limits up.
@@ -41,7 +25,7 @@ impl<'t> Run<'t> {
         Run {
             sheet,
             limits,
-            machine: Machine::new(beginning(rows, last)),
+            machine: Machine::new(rows, last),
             steps: 0,
         }
     }
@@ -54,16 +38,15 @@ impl<'t> Run<'t> {
     {
         environments::laws();
         machine::laws();
-        let sheet = self.sheet;
-        sheet.is_rule();
+        let program = Program {
+            sheet: self.sheet,
+            limits: self.limits,
+        };
+        program.sheet.is_rule();
         if self.steps == self.limits.fuel {
             return false;
         }
-        let limits = self.limits;
-        if !self
-            .machine
-            .step(&sheet, limits.frames, limits.cells, counter)
-        {
+        if self.machine.step(&program, counter).is_none() {
             return false;
         }
         self.steps += 1;
