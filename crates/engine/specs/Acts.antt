@@ -1,4 +1,4 @@
--- What the machine does, on what its store holds.
+-- What a step does to a store, and where it leads.
 use Rattle.std.specs.Prelude.{ℕ, suc, ◌+◌, ◌-◌, cond, List, [], length, Some, None, Option, nat_lt, ◌==◌, slice_index_or, if◌then◌else◌}
 use Rattle.rows.specs.declared.tables.TermRow.{TermRow}
 use Rattle.rows.specs.declared.forms.Form.{Form}
@@ -18,6 +18,8 @@ use Rattle.engine.specs.declared.state.Cell.{Cell}
 use Rattle.engine.specs.declared.state.Cell.TheVariants as C
 use Rattle.engine.specs.declared.state.Mode.{Mode}
 use Rattle.engine.specs.declared.state.Mode.TheVariants as M
+use Rattle.engine.specs.declared.state.Next.{Next}
+use Rattle.engine.specs.declared.state.Next.TheVariants as N
 use Rattle.engine.specs.declared.control.Machine.{Machine}
 use Rattle.engine.specs.declared.control.Program.{Program}
 use Rattle.engine.specs.Contents.{Contents}
@@ -25,13 +27,9 @@ use Rattle.engine.specs.View.{row_at, op_of}
 use Rattle.engine.specs.Values.{limited_to, answered_by, value_mode, closure_mode, halves_of, bound_to}
 use Rattle.engine.specs.Stores.{no_cell, top_of, pushed, popped, seconded, allocated, entered}
 
--- a machine afterwards, and where it stands next, or nothing where no step is made
+-- a store afterwards, and where the step leads, or nothing where none is made
 abbrev pub Choice : Type 0
-Choice = Machine × Option Mode
-
--- the machine with another store and count of moves
-abbrev pub holding : Contents → ℕ → Machine → Machine
-holding t moves m = record { store = t; mode = m.mode; moves = moves }
+Choice = Contents × Option Next
 
 -- where a machine with these cells stands at a row in an environment
 abbrev pub stands_at : Program → List Cell → ℕ → ℕ → Mode
@@ -42,30 +40,31 @@ abbrev pub begun : List TermRow → ℕ → Machine
 begun rows r = record { store = record { frames = []; cells = [] }; mode = closure_mode (entered rows [] r 0); moves = 0 }
 
 -- the top frame is done with: a move
-abbrev pub gave : Mode → Machine → Choice
-gave x m = (holding (popped m.store) (m.moves + 1) m, Some x)
+abbrev pub gave : Mode → Contents → Choice
+gave x k = (popped k, Some (N.Move x))
 
-abbrev pub resumed : Program → ℕ → ℕ → Machine → Choice
-resumed p r e m = gave (stands_at p m.store.cells r e) m
+abbrev pub resumed : Program → ℕ → ℕ → Contents → Choice
+resumed p r e k = gave (stands_at p k.cells r e) k
 
 -- a form is opened, if there is room for a frame
-abbrev pub opened : Program → Frame → ℕ → ℕ → Machine → Choice
-opened p f r e m =
-    if nat_lt (length m.store.frames) p.limits.frames then (holding (pushed f m.store) m.moves m, Some (stands_at p m.store.cells r e)) else (m, None)
+abbrev pub opened : Program → Frame → ℕ → ℕ → Contents → Choice
+opened p f r e k = if nat_lt (length k.frames) p.limits.frames then (pushed f k, Some (N.At (stands_at p k.cells r e))) else (k, None)
 
--- a name is bound, if there is room for a cell, and the store is changed besides: a move
-abbrev pub bound : (Contents → Contents) → Program → Cell → ℕ → Machine → Choice
-bound besides p x r m =
-    if nat_lt (length m.store.cells) p.limits.cells then (holding (besides (allocated x m.store)) (m.moves + 1) m, Some (stands_at p (allocated x m.store).cells r (length m.store.cells + 1))) else (m, None)
+-- a cell is made, if there is room for it
+abbrev pub made : Program → Cell → Next → (Contents → Contents) → Contents → Choice
+made p x next besides k = if nat_lt (length k.cells) p.limits.cells then (besides (allocated x k), Some next) else (k, None)
 
--- a pair is finished, if there is room for a cell
-abbrev pub paired : Program → ℕ → Value → Value → Machine → Choice
-paired p pair v w m =
-    if nat_lt (length m.store.cells) p.limits.cells then (holding (popped (allocated (C.Pair pair v w) m.store)) m.moves m, Some (M.Pair (length m.store.cells))) else (m, None)
+-- a name is bound: a move
+abbrev pub bound : (Contents → Contents) → Program → Cell → ℕ → Contents → Choice
+bound besides p x r k = made p x (N.Move (stands_at p (allocated x k).cells r (length k.cells + 1))) besides k
+
+-- a pair is finished
+abbrev pub paired : Program → ℕ → Value → Value → Contents → Choice
+paired p pair v w k = made p (C.Pair pair v w) (N.At (M.Pair (length k.cells))) popped k
 
 -- the second part of the top frame's form is entered
-abbrev pub second : Program → Value → ℕ → ℕ → Machine → Choice
-second p v r e m = (holding (seconded v m.store) m.moves m, Some (stands_at p m.store.cells r e))
+abbrev pub second : Program → Value → ℕ → ℕ → Contents → Choice
+second p v r e k = (seconded v k, Some (N.At (stands_at p k.cells r e)))
 
 -- ---- a row
 
@@ -85,73 +84,73 @@ frame_of (H.Form R.Mul) r b e = Some (F.CalcFirst O.Mul b e)
 frame_of _ r b e = None
 
 -- what is done at a row that opens no frame, by what it begins with
-abbrev pub unopened : Head → Program → TermRow → ℕ → ℕ → Machine → Choice
-unopened H.Number p t r e m = (m, Some (M.Number t.number))
-unopened (H.Form R.Lam) p t r e m = (m, Some (M.Lam r e))
-unopened (H.Form R.Fix) p t r e m = bound (λ k. k) p (C.Bound r e e) t.a m
-unopened (H.Form R.Fail) p t r e m = (m, Some M.Fail)
-unopened _ p t r e m = (m, Some (M.Eval r e))
+abbrev pub unopened : Head → Program → TermRow → ℕ → ℕ → Contents → Choice
+unopened H.Number p t r e k = (k, Some (N.At (M.Number t.number)))
+unopened (H.Form R.Lam) p t r e k = (k, Some (N.At (M.Lam r e)))
+unopened (H.Form R.Fix) p t r e k = bound (λ l. l) p (C.Bound r e e) t.a k
+unopened (H.Form R.Fail) p t r e k = (k, Some (N.At M.Fail))
+unopened _ p t r e k = (k, Some (N.At (M.Eval r e)))
 
-abbrev pub begun_in : Option Frame → Head → Program → TermRow → ℕ → ℕ → Machine → Choice
-begun_in (Some f) h p t r e m = opened p f t.a e m
-begun_in None h p t r e m = unopened h p t r e m
+abbrev pub begun_in : Option Frame → Head → Program → TermRow → ℕ → ℕ → Contents → Choice
+begun_in (Some f) h p t r e k = opened p f t.a e k
+begun_in None h p t r e k = unopened h p t r e k
 
-abbrev pub evaluated_by : Head → Program → TermRow → ℕ → ℕ → Machine → Choice
-evaluated_by h p t r e m = begun_in (frame_of h r t.b e) h p t r e m
+abbrev pub evaluated_by : Head → Program → TermRow → ℕ → ℕ → Contents → Choice
+evaluated_by h p t r e k = begun_in (frame_of h r t.b e) h p t r e k
 
-abbrev pub evaluated : Program → ℕ → ℕ → Machine → Choice
-evaluated p r e m = evaluated_by (head_at (row_at (tables p.sheet) r).kind) p (row_at (tables p.sheet) r) r e m
+abbrev pub evaluated : Program → ℕ → ℕ → Contents → Choice
+evaluated p r e k = evaluated_by (head_at (row_at (tables p.sheet) r).kind) p (row_at (tables p.sheet) r) r e k
 
 -- ---- a value at a frame
 
 -- a number at an ifz
-abbrev pub branched : Program → ℕ → ℕ → ℕ → Machine → Choice
-branched p n r e m =
-    if n == 0 then resumed p (row_at (tables p.sheet) r).b e m else bound popped p (C.Number (n - 1) e) (row_at (tables p.sheet) r).c m
+abbrev pub branched : Program → ℕ → ℕ → ℕ → Contents → Choice
+branched p n r e k =
+    if n == 0 then resumed p (row_at (tables p.sheet) r).b e k else bound popped p (C.Number (n - 1) e) (row_at (tables p.sheet) r).c k
 
 -- a function with the environment x at an argument
-abbrev pub applied : Program → ℕ → ℕ → ℕ → ℕ → Machine → Choice
-applied p lam x r e m = bound popped p (bound_to (entered (tables p.sheet).1 m.store.cells r e) x) (row_at (tables p.sheet) lam).a m
+abbrev pub applied : Program → ℕ → ℕ → ℕ → ℕ → Contents → Choice
+applied p lam x r e k = bound popped p (bound_to (entered (tables p.sheet).1 k.cells r e) x) (row_at (tables p.sheet) lam).a k
 
 -- the values of the pair in a cell
-abbrev pub halves_at : ℕ → Machine → Value × Value
-halves_at i m = halves_of (slice_index_or m.store.cells i no_cell)
+abbrev pub halves_at : ℕ → Contents → Value × Value
+halves_at i k = halves_of (slice_index_or k.cells i no_cell)
 
 -- at a frame that takes values of its kind alone; another value stays, which no well typed state has
-abbrev pub taken : Program → Meaning → Value → Frame → Machine → Choice
-taken p t (V.Number n) F.Succ m = gave (limited_to (n + 1)) m
-taken p t (V.Number n) F.Get m = gave (answered_by (t n)) m
-taken p t (V.Number n) (F.Ifz r e) m = branched p n r e m
-taken p t (V.Number n) (F.CalcFirst o r e) m = second p (V.Number n) r e m
-taken p t (V.Number n) (F.CalcSecond o k) m = gave (limited_to (result (op_of o) k n)) m
-taken p t (V.Lam lam x) (F.Apply r e) m = applied p lam x r e m
-taken p t (V.Pair i) F.Fst m = gave (value_mode (halves_at i m).0) m
-taken p t (V.Pair i) F.Snd m = gave (value_mode (halves_at i m).1) m
-taken p t v f m = (m, Some (value_mode v))
+abbrev pub taken : Program → Meaning → Value → Frame → Contents → Choice
+taken p t (V.Number n) F.Succ k = gave (limited_to (n + 1)) k
+taken p t (V.Number n) F.Get k = gave (answered_by (t n)) k
+taken p t (V.Number n) (F.Ifz r e) k = branched p n r e k
+taken p t (V.Number n) (F.CalcFirst o r e) k = second p (V.Number n) r e k
+taken p t (V.Number n) (F.CalcSecond o j) k = gave (limited_to (result (op_of o) j n)) k
+taken p t (V.Lam lam x) (F.Apply r e) k = applied p lam x r e k
+taken p t (V.Pair i) F.Fst k = gave (value_mode (halves_at i k).0) k
+taken p t (V.Pair i) F.Snd k = gave (value_mode (halves_at i k).1) k
+taken p t v f k = (k, Some (N.At (value_mode v)))
 
-abbrev pub returned : Program → Meaning → Value → Frame → Machine → Choice
-returned p t v (F.Catch r e) m = gave (value_mode v) m
-returned p t v (F.PairFirst q e) m = second p v (row_at (tables p.sheet) q).b e m
-returned p t v (F.PairNumber q n) m = paired p q (V.Number n) v m
-returned p t v (F.PairLam q r e) m = paired p q (V.Lam r e) v m
-returned p t v (F.PairPair q i) m = paired p q (V.Pair i) v m
-returned p t v f m = taken p t v f m
+abbrev pub returned : Program → Meaning → Value → Frame → Contents → Choice
+returned p t v (F.Catch r e) k = gave (value_mode v) k
+returned p t v (F.PairFirst q e) k = second p v (row_at (tables p.sheet) q).b e k
+returned p t v (F.PairNumber q n) k = paired p q (V.Number n) v k
+returned p t v (F.PairLam q r e) k = paired p q (V.Lam r e) v k
+returned p t v (F.PairPair q i) k = paired p q (V.Pair i) v k
+returned p t v f k = taken p t v f k
 
 -- ---- the step
 
-abbrev pub chosen_at : Mode → Option Frame → Program → Meaning → Machine → Choice
-chosen_at (M.Eval r e) f p t m = evaluated p r e m
-chosen_at (M.Numeral n) f p t m = (m, Some (M.Number n))
-chosen_at (M.Number n) None p t m = (m, None)
-chosen_at (M.Number n) (Some f) p t m = returned p t (V.Number n) f m
-chosen_at (M.Lam r e) None p t m = (m, Some (M.Lam r e))
-chosen_at (M.Lam r e) (Some f) p t m = returned p t (V.Lam r e) f m
-chosen_at (M.Pair i) None p t m = (m, Some (M.Pair i))
-chosen_at (M.Pair i) (Some f) p t m = returned p t (V.Pair i) f m
-chosen_at M.Fail None p t m = (m, None)
-chosen_at M.Fail (Some (F.Catch r e)) p t m = resumed p r e m
-chosen_at M.Fail (Some f) p t m = gave M.Fail m
+abbrev pub chosen_at : Mode → Option Frame → Program → Meaning → Contents → Choice
+chosen_at (M.Eval r e) f p t k = evaluated p r e k
+chosen_at (M.Numeral n) f p t k = (k, Some (N.At (M.Number n)))
+chosen_at (M.Number n) None p t k = (k, None)
+chosen_at (M.Number n) (Some f) p t k = returned p t (V.Number n) f k
+chosen_at (M.Lam r e) None p t k = (k, Some (N.At (M.Lam r e)))
+chosen_at (M.Lam r e) (Some f) p t k = returned p t (V.Lam r e) f k
+chosen_at (M.Pair i) None p t k = (k, Some (N.At (M.Pair i)))
+chosen_at (M.Pair i) (Some f) p t k = returned p t (V.Pair i) f k
+chosen_at M.Fail None p t k = (k, None)
+chosen_at M.Fail (Some (F.Catch r e)) p t k = resumed p r e k
+chosen_at M.Fail (Some f) p t k = gave M.Fail k
 
 -- by the mode and the top frame together, over the counter t
-abbrev pub chosen : Program → Meaning → Machine → Choice
-chosen p t m = chosen_at m.mode (top_of m.store.frames) p t m
+abbrev pub chosen : Program → Meaning → Mode → Contents → Choice
+chosen p t m k = chosen_at m (top_of k.frames) p t k

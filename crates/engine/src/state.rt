@@ -107,3 +107,10 @@ pub enum Mode {
     Pair(u32),
     Fail,
 }
+
+// Where a step leads: to a mode, without a move or by one.
+#[derive(Clone, Copy)]
+pub enum Next {
+    At(Mode),
+    Move(Mode),
+}

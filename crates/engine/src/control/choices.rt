@@ -1,99 +1,108 @@
 // Which step is made, by the mode and the top frame together.
-ghost use Rattle.std.specs.Prelude.{◌≡◌, ◌<◌, true, is_some};
+ghost use Rattle.std.specs.Prelude.{◌≡◌, true, is_some};
 ghost use Rattle.rows.specs.Forms.{head_at};
 ghost use Rattle.engine.specs.Stores.{top_of};
-ghost use Rattle.engine.specs.Acts.{frame_of, evaluated, chosen};
+ghost use Rattle.engine.specs.Acts.{begun, frame_of, evaluated, chosen};
 ghost use Rattle.engine.specs.Choices.{suits, Small, Ready, Stepped};
 
 use crate::control::{Machine, Program};
-use crate::state::{Cell, Frame, Mode, Op, Value};
+use crate::state::{Cell, Closure, Frame, Mode, Next, Op, Value};
+use crate::store::Store;
+use crate::store::names::enter;
 use counters::Counter;
 use rows::{Form, Head, TermRow};
 
 // The frame that waits while the first part of a row's form is evaluated, if the form evaluates one.
-fn frame_of(term: TermRow, row: u32, env: u32) -> Option<Frame>
-    requires { row < 65536 }
+fn frame_of(term: TermRow, row: u16, env: u32) -> Option<Frame>
     ensures { result ≡ frame_of (head_at term.kind) row term.b env }
 {
     let Head::Form(form) = term.head() else {
         return None;
     };
-    let calc = |op| Some(Frame::CalcFirst {
+    let calc = |op| Frame::CalcFirst {
         op,
         row: term.b,
         env,
-    });
+    };
     match form {
         Form::Succ => Some(Frame::Succ),
         Form::Fst => Some(Frame::Fst),
         Form::Snd => Some(Frame::Snd),
         Form::Get => Some(Frame::Get),
-        Form::Ifz => Some(Frame::Ifz { row, env }),
-        Form::Ap => Some(Frame::Apply { row: term.b, env }),
-        Form::Catch => Some(Frame::Catch { row: term.b, env }),
-        Form::Pair => Some(Frame::PairFirst {
-            pair: row as u16,
+        Form::Ifz => Some(Frame::Ifz {
+            row: row as u32,
             env,
         }),
-        Form::Add => calc(Op::Add),
-        Form::Sub => calc(Op::Sub),
-        Form::Mul => calc(Op::Mul),
+        Form::Ap => Some(Frame::Apply { row: term.b, env }),
+        Form::Catch => Some(Frame::Catch { row: term.b, env }),
+        Form::Pair => Some(Frame::PairFirst { pair: row, env }),
+        Form::Add => Some(calc(Op::Add)),
+        Form::Sub => Some(calc(Op::Sub)),
+        Form::Mul => Some(calc(Op::Mul)),
         Form::Lam | Form::Fix | Form::Fail => None,
     }
 }
 
-impl Machine {
+impl Store {
     // The step at a row that is no name.
-    fn eval(&mut self, program: &Program, row: u32, env: u32) -> Option<Mode>
-        requires small { row < 65536 }
-        requires more { self.old.moves < 4294967295 }
+    fn eval(&mut self, program: &Program, row: u16, env: u32) -> Option<Next>
         ensures { (self.new, result) ≡ evaluated program.now row env self.old }
     {
-        let term = program.row(row);
+        let place = row as u32;
+        let term = program.row(place);
         if let Some(frame) = frame_of(term, row, env) {
             return self.open(program, frame, term.a, env);
         }
+        let own = Closure::Row { row: place, env };
         match term.head() {
-            Head::Number => Some(Mode::Number(term.number)),
-            Head::Form(Form::Lam) => Some(Mode::Lam {
-                row: row as u16,
-                env,
-            }),
-            Head::Form(Form::Fix) => {
-                self.bind(
-                    program,
-                    Cell::Bound {
-                        row,
-                        env,
-                        next: env,
-                    },
-                    term.a,
-                )
-            }
-            Head::Form(Form::Fail) => Some(Mode::Fail),
-            _ => Some(Mode::Eval { row, env }),
+            Head::Number => Some(Next::At(Mode::Number(term.number))),
+            Head::Form(Form::Lam) => Some(Next::At(Mode::Lam { row, env })),
+            Head::Form(Form::Fix) => self.bind(program, Cell::bound(own, env), term.a),
+            Head::Form(Form::Fail) => Some(Next::At(Mode::Fail)),
+            _ => Some(Next::At(Mode::from(own))),
+        }
+    }
+}
+
+impl Machine {
+    // A machine with nothing in its store, at a row.
+    pub(crate) fn new(rows: &[TermRow], row: u32) -> Machine
+        ensures { result ≡ begun rows.now row }
+    {
+        Machine {
+            store: Store::new(),
+            mode: Mode::from(enter(rows, &[], row, 0)),
+            moves: 0,
         }
     }
 
-    // What is done next, by the mode and the top frame: the step, or nothing at an end or where the limits do not allow it.
-    fn choose<C: Counter>(&mut self, program: &Program, counter: &mut C) -> Option<Mode>
-        requires small { Small self.old.mode }
-        requires more { self.old.moves < 4294967295 }
-        ensures does { (self.new, result) ≡ chosen program.now (C.Counter.table counter.old) self.old }
+    // What is done next, by the mode and the top frame: where the step leads, or nothing at an end or where the limits do not
+    // allow it.
+    fn choose<C: Counter>(&mut self, program: &Program, counter: &mut C) -> Option<Next>
+        requires { Small self.old.mode }
+        ensures does { (self.new.store, result) ≡ chosen program.now (C.Counter.table counter.old) self.old.mode self.old.store }
+        ensures stays { self.new ≡ record { store = self.new.store; mode = self.old.mode; moves = self.old.moves } }
         ensures alike { C.Counter.table counter.new ≡ C.Counter.table counter.old }
     {
         match (self.mode, self.store.top()) {
-            (Mode::Eval { row, env }, _) => self.eval(program, row, env),
-            (Mode::Numeral(n), _) => Some(Mode::Number(n)),
-            (Mode::Number(n), Some(f)) => self.returned(program, Value::Number(n), f, counter),
-            (Mode::Lam { row, env }, Some(f)) => {
-                self.returned(program, Value::Lam { row, env }, f, counter)
+            (Mode::Eval { row, env }, _) => self.store.eval(program, row as u16, env),
+            (Mode::Numeral(n), _) => Some(Next::At(Mode::Number(n))),
+            (Mode::Number(n), Some(f)) => {
+                self.store.returned(program, Value::Number(n), f, counter)
             }
-            (Mode::Pair(cell), Some(f)) => self.returned(program, Value::Pair(cell), f, counter),
-            (Mode::Fail, Some(Frame::Catch { row, env })) => self.resume(program, row, env),
-            (Mode::Fail, Some(_)) => self.give(Mode::Fail),
+            (Mode::Lam { row, env }, Some(f)) => {
+                self.store
+                    .returned(program, Value::Lam { row, env }, f, counter)
+            }
+            (Mode::Pair(cell), Some(f)) => {
+                self.store.returned(program, Value::Pair(cell), f, counter)
+            }
+            (Mode::Fail, Some(Frame::Catch { row, env })) => {
+                Some(self.store.resume(program, row, env))
+            }
+            (Mode::Fail, Some(_)) => Some(self.store.give(Mode::Fail)),
             (Mode::Number(_) | Mode::Fail, None) => None,
-            (mode, None) => Some(mode),
+            (mode, None) => Some(Next::At(mode)),
         }
     }
 
@@ -105,7 +114,13 @@ impl Machine {
         ensures stepped { Stepped program.now (C.Counter.table counter.old) self.old self.new (is_some result) }
         ensures alike { C.Counter.table counter.new ≡ C.Counter.table counter.old }
     {
-        self.mode = self.choose(program, counter)?;
+        match self.choose(program, counter)? {
+            Next::At(mode) => self.mode = mode,
+            Next::Move(mode) => {
+                self.mode = mode;
+                self.moves += 1;
+            }
+        }
         Some(())
     }
 }

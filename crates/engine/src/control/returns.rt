@@ -1,32 +1,33 @@
 // What is done with a value that is returned to the top frame.
-ghost use Rattle.std.specs.Prelude.{◌≡◌, ◌<◌};
+ghost use Rattle.std.specs.Prelude.{◌≡◌};
 ghost use Rattle.engine.specs.Acts.{branched, applied, taken, returned};
 
+use crate::control::Program;
 use crate::control::values::{calculated, limited};
-use crate::control::{Machine, Program};
-use crate::state::{Cell, Frame, Mode, Value};
+use crate::state::{Cell, Frame, Mode, Next, Value};
+use crate::store::Store;
 use crate::store::names::enter;
 use counters::Counter;
 
-impl Machine {
+impl Store {
     // A number returned to an ifz.
-    fn branch(&mut self, program: &Program, n: u32, row: u32, env: u32) -> Option<Mode>
-        requires { self.old.moves < 4294967295 }
+    fn branch(&mut self, program: &Program, n: u32, row: u32, env: u32) -> Option<Next>
         ensures { (self.new, result) ≡ branched program.now n row env self.old }
     {
         let term = program.row(row);
         match n.checked_sub(1) {
-            None => self.resume(program, term.b, env),
-            Some(number) => self.resume_with(program, Cell::Number { number, next: env }, term.c),
+            None => Some(self.resume(program, term.b, env)),
+            Some(number) => {
+                self.resume_with(program, Cell::Number { number, next: env }, term.c)
+            }
         }
     }
 
     // A function, by the row of its lam and its environment, returned to an argument.
-    fn apply(&mut self, program: &Program, lam: u16, outer: u32, row: u32, env: u32) -> Option<Mode>
-        requires { self.old.moves < 4294967295 }
+    fn apply(&mut self, program: &Program, lam: u16, outer: u32, row: u32, env: u32) -> Option<Next>
         ensures { (self.new, result) ≡ applied program.now lam outer row env self.old }
     {
-        let argument = enter(program.sheet.terms(), self.store.cells(), row, env);
+        let argument = enter(program.sheet.terms(), self.cells(), row, env);
         let body = program.row(lam as u32).a;
         self.resume_with(program, Cell::bound(argument, outer), body)
     }
@@ -39,20 +40,19 @@ impl Machine {
         v: Value,
         f: Frame,
         counter: &mut C,
-    ) -> Option<Mode>
-        requires { self.old.moves < 4294967295 }
+    ) -> Option<Next>
         ensures does { (self.new, result) ≡ taken program.now (C.Counter.table counter.old) v f self.old }
         ensures alike { C.Counter.table counter.new ≡ C.Counter.table counter.old }
     {
         match (v, f) {
-            (Value::Number(n), Frame::Succ) => self.give(limited(n as u64 + 1)),
-            (Value::Number(n), Frame::Get) => self.give(Mode::from(counter.answer(n))),
+            (Value::Number(n), Frame::Succ) => Some(self.give(limited(n as u64 + 1))),
+            (Value::Number(n), Frame::Get) => Some(self.give(Mode::from(counter.answer(n)))),
             (Value::Number(n), Frame::Ifz { row, env }) => self.branch(program, n, row, env),
             (Value::Number(_), Frame::CalcFirst { row, env, .. }) => {
-                self.second(program, v, row, env)
+                Some(self.second(program, v, row, env))
             }
             (Value::Number(n), Frame::CalcSecond { op, left }) => {
-                self.give(limited(calculated(op, left, n)))
+                Some(self.give(limited(calculated(op, left, n))))
             }
             (
                 Value::Lam {
@@ -61,9 +61,9 @@ impl Machine {
                 },
                 Frame::Apply { row, env },
             ) => { self.apply(program, lam, outer, row, env) }
-            (Value::Pair(cell), Frame::Fst) => self.give(Mode::from(self.halves(cell).0)),
-            (Value::Pair(cell), Frame::Snd) => self.give(Mode::from(self.halves(cell).1)),
-            _ => Some(Mode::from(v)),
+            (Value::Pair(cell), Frame::Fst) => Some(self.give(Mode::from(self.halves(cell).0))),
+            (Value::Pair(cell), Frame::Snd) => Some(self.give(Mode::from(self.halves(cell).1))),
+            _ => Some(Next::At(Mode::from(v))),
         }
     }
 
@@ -74,15 +74,14 @@ impl Machine {
         v: Value,
         f: Frame,
         counter: &mut C,
-    ) -> Option<Mode>
-        requires { self.old.moves < 4294967295 }
+    ) -> Option<Next>
         ensures does { (self.new, result) ≡ returned program.now (C.Counter.table counter.old) v f self.old }
         ensures alike { C.Counter.table counter.new ≡ C.Counter.table counter.old }
     {
         match f {
-            Frame::Catch { .. } => self.give(Mode::from(v)),
+            Frame::Catch { .. } => Some(self.give(Mode::from(v))),
             Frame::PairFirst { pair, env } => {
-                self.second(program, v, program.row(pair as u32).b, env)
+                Some(self.second(program, v, program.row(pair as u32).b, env))
             }
             Frame::PairNumber { pair, number } => {
                 self.pair(program, pair, Value::Number(number), v)
