@@ -69,16 +69,12 @@ cell_stands : (s : Tables) (cs : List Cell) (i : ℕ) → cell_at (map (view_cel
 cell_stands s cs i = map_at (view_cell s) cs i no_cell blank_cell refl
 
 left_stands : (s : Tables) (x : Cell) → mode_of s (value_mode (halves_of x).0) ≡ EM.Return (left_in (view_cell s x))
-left_stands s (C.Blank a b c d e f) = refl
-left_stands s (C.Bound r e x) = refl
-left_stands s (C.Number n x) = refl
 left_stands s (C.Pair p v w) = value_stands s v
+left_stands s _ = refl
 
 right_stands : (s : Tables) (x : Cell) → mode_of s (value_mode (halves_of x).1) ≡ EM.Return (right_in (view_cell s x))
-right_stands s (C.Blank a b c d e f) = refl
-right_stands s (C.Bound r e x) = refl
-right_stands s (C.Number n x) = refl
 right_stands s (C.Pair p v w) = value_stands s w
+right_stands s _ = refl
 
 pub left_half : (s : Tables) (cs : List Cell) (i : ℕ) → mode_of s (value_mode (halves_of (get_or cs i no_cell)).0) ≡ EM.Return (left_in (cell_at (map (view_cell s) cs) i))
 left_half s cs i = left_stands s (get_or cs i no_cell) ∙ ap (λ (x : EC.Cell). EM.Return (left_in x)) (sym (cell_stands s cs i))
@@ -97,16 +93,12 @@ one_more s cs x = sym (map-append (view_cell s) cs (x ∷ []))
 -- ---- names
 
 binding_stands : (s : Tables) (x : Cell) → closed_of (binding_of x).0 ≡ bound_of_cell (view_cell s x)
-binding_stands s (C.Blank a b c d e f) = refl
 binding_stands s (C.Bound r e x) = refl
-binding_stands s (C.Number n x) = refl
-binding_stands s (C.Pair p v w) = refl
+binding_stands s _ = refl
 
 next_stands : (s : Tables) (x : Cell) → (binding_of x).1 ≡ next_of_cell (view_cell s x)
-next_stands s (C.Blank a b c d e f) = refl
 next_stands s (C.Bound r e x) = refl
-next_stands s (C.Number n x) = refl
-next_stands s (C.Pair p v w) = refl
+next_stands s _ = refl
 
 nearest_stands : (s : Tables) (cs : List Cell) (e : ℕ) → closed_of (nearest_in cs e).0 ≡ nearest (map (view_cell s) cs) e
 nearest_stands s cs zero = refl
@@ -152,19 +144,7 @@ node_at s r = map_at (node_of (types_from [] s.0)) s.1 r (leaf_row 0 0) blank_no
 
 form_rests : (k : List EC.Cell) (r e : ℕ) (g : Form) (T : Ty) (a b c : ℕ) → D.Row r e ≡ resolved k r e (form_node g T a b c)
 form_rests k r e R.Succ T a b c = refl
-form_rests k r e R.Ifz T a b c = refl
-form_rests k r e R.Lam T a b c = refl
-form_rests k r e R.Ap T a b c = refl
-form_rests k r e R.Fix T a b c = refl
-form_rests k r e R.Pair T a b c = refl
-form_rests k r e R.Fst T a b c = refl
-form_rests k r e R.Snd T a b c = refl
-form_rests k r e R.Add T a b c = refl
-form_rests k r e R.Sub T a b c = refl
-form_rests k r e R.Mul T a b c = refl
-form_rests k r e R.Get T a b c = refl
-form_rests k r e R.Fail T a b c = refl
-form_rests k r e R.Catch T a b c = refl
+form_rests k r e _ T a b c = refl
 
 -- what a row stands for in an environment
 pub entered_stands : (s : Tables) (cs : List Cell) (r e : ℕ) → closed_of (entered s.1 cs r e) ≡ enter (nodes_of s) (map (view_cell s) cs) r e

@@ -70,10 +70,9 @@ allocated x t = record { frames = t.frames; cells = t.cells ++ (x ∷ []) }
 
 -- what a cell binds, and the environment outside the binding; a cell that binds nothing is never looked up
 abbrev pub binding_of : Cell → Closure × ℕ
-binding_of (C.Blank a b c d e f) = (D.Number 0, 0)
 binding_of (C.Bound r e x) = (D.Row r e, x)
 binding_of (C.Number n x) = (D.Number n, x)
-binding_of (C.Pair p v w) = (D.Number 0, 0)
+binding_of _ = (D.Number 0, 0)
 
 -- the nearest binding of an environment, and the environment without it
 abbrev pub nearest_in : List Cell → ℕ → Closure × ℕ

@@ -33,9 +33,7 @@ closure_mode (D.Row r e) = M.Eval r e
 -- the halves of a pair, and 0 of any other cell
 abbrev pub halves_of : Cell → Value × Value
 halves_of (C.Pair p v w) = (v, w)
-halves_of (C.Blank a b c d e f) = (V.Number 0, V.Number 0)
-halves_of (C.Bound r e x) = (V.Number 0, V.Number 0)
-halves_of (C.Number n x) = (V.Number 0, V.Number 0)
+halves_of _ = (V.Number 0, V.Number 0)
 
 -- the cell that binds a name to a closure
 abbrev pub bound_to : Closure → ℕ → Cell

@@ -1,6 +1,6 @@
 // What the store holds and where the machine stands. An environment is 0 where it is empty, and k + 1 where cell k is its
 // nearest binding. Frames and modes take 12 bytes and cells 20, with no gap in the blank ones, so that a store of blanks is
-// made by clearing memory.
+// made by clearing memory. For this the kinds of a value lie flat in them: an enum within an enum has a tag of its own.
 
 #[derive(Clone, Copy)]
 pub enum Op {

@@ -7,7 +7,7 @@ pub mod cells;
 pub mod frames;
 pub mod names;
 
-// The tables lie in the store, so that a run needs no heap.
+// Plain arrays with a count beside each, since the rules of the project name them so: they lie in the run, with no heap.
 #[derive(Drop)]
 pub struct Store {
     frames: [Frame; MOST_FRAMES as usize],

@@ -1,4 +1,5 @@
-// What a step does to the store, and the limits that may not allow it.
+// What a step does to the store, and the limits that may not allow it. A row and its environment are passed beside each
+// other: a struct of the two would be built at each call only to be taken apart.
 ghost use Rattle.std.specs.Prelude.{◌≡◌};
 ghost use Rattle.engine.specs.Acts.{stands_at, gave, resumed, opened, bound, paired, second as seconding, halves_at};
 ghost use Rattle.engine.specs.Stores.{popped};

@@ -59,6 +59,7 @@ impl Store {
             Head::Form(Form::Lam) => Some(Next::At(Mode::Lam { row, env })),
             Head::Form(Form::Fix) => self.bind(program, Cell::bound(own, env), term.a),
             Head::Form(Form::Fail) => Some(Next::At(Mode::Fail)),
+            // a name, which was looked up where it was entered
             _ => Some(Next::At(Mode::from(own))),
         }
     }

@@ -1,4 +1,4 @@
-use Rattle.std.proofs.Common.{◌<◌, subst, arith}
+use Rattle.std.proofs.Common.{◌<◌, refl, subst, arith}
 use Rattle.checker.specs.Sheets.{tables}
 use Rattle.environments.specs.Nodes.{nodes_of}
 use Rattle.environments.specs.NodeTerms.{terms_of}
@@ -15,36 +15,26 @@ step-requires-clause-suited g c =
     let m = r.machine in
     top_suits (tables r.sheet) m.store.cells m.mode m.store.frames (c.laws.ensures.typed_suits (terms_of (nodes_of (tables r.sheet))) (state_of (tables r.sheet) m) r.typing)
 
-pub returns-then-self-clause-once : goal.returns-then-self-clause-once
+-- the fuel is spent
+pub returns-then-self : goal.returns-then-self
 unfolding view
-returns-then-self-clause-once g c =
+returns-then-self g c =
     let t = g.C.Counter.table c.args.counter.now in
     let k : Known c.args.self.now t = record { laws = c.laws.ensures; machine_laws = c.laws-2.ensures; law = c.is_rule.ensures.lawful; lawful = lawful_meaning t (g.C.Counter.laws c.args.counter.now) } in
-    still k (unfueled k c.if-self.true)
+    let spent = unfueled k c.if-self.true in
+    record { once = still k spent; step = rested k spent; alike = refl }
 
-pub returns-then-self-clause-step : goal.returns-then-self-clause-step
+-- no step was made
+pub returns-then-is_none : goal.returns-then-is_none
 unfolding view
-returns-then-self-clause-step g c =
-    let t = g.C.Counter.table c.args.counter.now in
-    let k : Known c.args.self.now t = record { laws = c.laws.ensures; machine_laws = c.laws-2.ensures; law = c.is_rule.ensures.lawful; lawful = lawful_meaning t (g.C.Counter.laws c.args.counter.now) } in
-    rested k (unfueled k c.if-self.true)
-
-pub returns-then-is_none-clause-once : goal.returns-then-is_none-clause-once
-unfolding view
-returns-then-is_none-clause-once g c =
+returns-then-is_none g c =
     let r = c.args.self.now in
     let t = g.C.Counter.table c.args.counter.now in
     let k : Known r t = record { laws = c.laws.ensures; machine_laws = c.laws-2.ensures; law = c.is_rule.ensures.lawful; lawful = lawful_meaning t (g.C.Counter.laws c.args.counter.now) } in
-    (stopped k c.step.new.self (subst (Stepped (program_of r) t r.machine c.step.new.self) c.if-is_none.ensures c.step.ensures.stepped)).0
+    let (once, step) = stopped k c.step.new.self (subst (Stepped (program_of r) t r.machine c.step.new.self) c.if-is_none.ensures c.step.ensures.stepped) in
+    record { once = once; step = step; alike = c.step.ensures.alike }
 
-pub returns-then-is_none-clause-step : goal.returns-then-is_none-clause-step
-unfolding view
-returns-then-is_none-clause-step g c =
-    let r = c.args.self.now in
-    let t = g.C.Counter.table c.args.counter.now in
-    let k : Known r t = record { laws = c.laws.ensures; machine_laws = c.laws-2.ensures; law = c.is_rule.ensures.lawful; lawful = lawful_meaning t (g.C.Counter.laws c.args.counter.now) } in
-    (stopped k c.step.new.self (subst (Stepped (program_of r) t r.machine c.step.new.self) c.if-is_none.ensures c.step.ensures.stepped)).1
-
+-- a step was made
 pub invariant_of-self-2 : goal.invariant_of-self-2
 invariant_of-self-2 g c =
     let r = c.args.self.now in
@@ -56,18 +46,12 @@ invariant_of-self-2 g c =
     let kept = made_kept k c.step.new.self w lasts in
     record { spending = omega (arith, lasts); moving = omega (arith, fits.2, r.moving); standing = fits.0; holding = fits.1; fitting = kept.holds; typing = kept.typed }
 
-pub returns-clause-once : goal.returns-clause-once
+pub returns : goal.returns
 unfolding view
-returns-clause-once g c =
+returns g c =
     let r = c.args.self.now in
     let t = g.C.Counter.table c.args.counter.now in
     let k : Known r t = record { laws = c.laws.ensures; machine_laws = c.laws-2.ensures; law = c.is_rule.ensures.lawful; lawful = lawful_meaning t (g.C.Counter.laws c.args.counter.now) } in
-    made_once k c.step.new.self (subst (Stepped (program_of r) t r.machine c.step.new.self) c.if-is_none.ensures c.step.ensures.stepped) (omega (arith, c.if-self.false, r.spending))
-
-pub returns-clause-step : goal.returns-clause-step
-unfolding view
-returns-clause-step g c =
-    let r = c.args.self.now in
-    let t = g.C.Counter.table c.args.counter.now in
-    let k : Known r t = record { laws = c.laws.ensures; machine_laws = c.laws-2.ensures; law = c.is_rule.ensures.lawful; lawful = lawful_meaning t (g.C.Counter.laws c.args.counter.now) } in
-    made_moves k c.step.new.self (subst (Stepped (program_of r) t r.machine c.step.new.self) c.if-is_none.ensures c.step.ensures.stepped) (omega (arith, c.if-self.false, r.spending))
+    let w = subst (Stepped (program_of r) t r.machine c.step.new.self) c.if-is_none.ensures c.step.ensures.stepped in
+    let lasts : r.steps < r.limits.fuel = omega (arith, c.if-self.false, r.spending) in
+    record { once = made_once k c.step.new.self w lasts; step = made_moves k c.step.new.self w lasts; alike = c.step.ensures.alike }
