@@ -1,7 +1,6 @@
 -- What a step does to a store, and where it leads.
 use Rattle.std.specs.Prelude.{ℕ, suc, ◌+◌, ◌-◌, cond, List, [], length, Some, None, Option, nat_lt, ◌==◌, slice_index_or, if◌then◌else◌}
 use Rattle.rows.specs.declared.tables.TermRow.{TermRow}
-use Rattle.rows.specs.declared.forms.Form.{Form}
 use Rattle.rows.specs.declared.forms.Form.TheVariants as R
 use Rattle.rows.specs.declared.forms.Head.{Head}
 use Rattle.rows.specs.declared.forms.Head.TheVariants as H
@@ -68,35 +67,24 @@ second p v r e k = (seconded v k, Some (N.At (stands_at p k.cells r e)))
 
 -- ---- a row
 
--- the frame that waits while the first part of a form is evaluated, if the form evaluates one; the form is that of row r
-abbrev pub frame_of : Head → ℕ → ℕ → ℕ → Option Frame
-frame_of (H.Form R.Succ) r b e = Some F.Succ
-frame_of (H.Form R.Fst) r b e = Some F.Fst
-frame_of (H.Form R.Snd) r b e = Some F.Snd
-frame_of (H.Form R.Get) r b e = Some F.Get
-frame_of (H.Form R.Ifz) r b e = Some (F.Ifz r e)
-frame_of (H.Form R.Ap) r b e = Some (F.Apply b e)
-frame_of (H.Form R.Catch) r b e = Some (F.Catch b e)
-frame_of (H.Form R.Pair) r b e = Some (F.PairFirst r e)
-frame_of (H.Form R.Add) r b e = Some (F.CalcFirst O.Add b e)
-frame_of (H.Form R.Sub) r b e = Some (F.CalcFirst O.Sub b e)
-frame_of (H.Form R.Mul) r b e = Some (F.CalcFirst O.Mul b e)
-frame_of _ r b e = None
-
--- what is done at a row that opens no frame, by what it begins with
-abbrev pub unopened : Head → Program → TermRow → ℕ → ℕ → Contents → Choice
-unopened H.Number p t r e k = (k, Some (N.At (M.Number t.number)))
-unopened (H.Form R.Lam) p t r e k = (k, Some (N.At (M.Lam r e)))
-unopened (H.Form R.Fix) p t r e k = bound (λ l. l) p (C.Bound r e e) t.a k
-unopened (H.Form R.Fail) p t r e k = (k, Some (N.At M.Fail))
-unopened _ p t r e k = (k, Some (N.At (M.Eval r e)))
-
-abbrev pub begun_in : Option Frame → Head → Program → TermRow → ℕ → ℕ → Contents → Choice
-begun_in (Some f) h p t r e k = opened p f t.a e k
-begun_in None h p t r e k = unopened h p t r e k
-
+-- what is done at row r, by what it begins with
 abbrev pub evaluated_by : Head → Program → TermRow → ℕ → ℕ → Contents → Choice
-evaluated_by h p t r e k = begun_in (frame_of h r t.b e) h p t r e k
+evaluated_by H.Number p t r e k = (k, Some (N.At (M.Number t.number)))
+evaluated_by H.Name p t r e k = (k, Some (N.At (M.Eval r e)))
+evaluated_by (H.Form R.Lam) p t r e k = (k, Some (N.At (M.Lam r e)))
+evaluated_by (H.Form R.Fail) p t r e k = (k, Some (N.At M.Fail))
+evaluated_by (H.Form R.Fix) p t r e k = bound (λ l. l) p (C.Bound r e e) t.a k
+evaluated_by (H.Form R.Succ) p t r e k = opened p F.Succ t.a e k
+evaluated_by (H.Form R.Fst) p t r e k = opened p F.Fst t.a e k
+evaluated_by (H.Form R.Snd) p t r e k = opened p F.Snd t.a e k
+evaluated_by (H.Form R.Get) p t r e k = opened p F.Get t.a e k
+evaluated_by (H.Form R.Ifz) p t r e k = opened p (F.Ifz r e) t.a e k
+evaluated_by (H.Form R.Ap) p t r e k = opened p (F.Apply t.b e) t.a e k
+evaluated_by (H.Form R.Catch) p t r e k = opened p (F.Catch t.b e) t.a e k
+evaluated_by (H.Form R.Pair) p t r e k = opened p (F.PairFirst r e) t.a e k
+evaluated_by (H.Form R.Add) p t r e k = opened p (F.CalcFirst O.Add t.b e) t.a e k
+evaluated_by (H.Form R.Sub) p t r e k = opened p (F.CalcFirst O.Sub t.b e) t.a e k
+evaluated_by (H.Form R.Mul) p t r e k = opened p (F.CalcFirst O.Mul t.b e) t.a e k
 
 abbrev pub evaluated : Program → ℕ → ℕ → Contents → Choice
 evaluated p r e k = evaluated_by (head_at (row_at (tables p.sheet) r).kind) p (row_at (tables p.sheet) r) r e k

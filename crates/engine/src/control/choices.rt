@@ -1,8 +1,8 @@
 // Which step is made, by the mode and the top frame together.
 ghost use Rattle.std.specs.Prelude.{◌≡◌, true, is_some};
-ghost use Rattle.rows.specs.Forms.{head_at};
+ghost use Rattle.engine.specs.declared.state.Frame.TheVariants.{CalcFirst};
 ghost use Rattle.engine.specs.Stores.{top_of};
-ghost use Rattle.engine.specs.Acts.{begun, frame_of, evaluated, chosen};
+ghost use Rattle.engine.specs.Acts.{begun, opened, evaluated, chosen};
 ghost use Rattle.engine.specs.Choices.{suits, Small, Ready, Stepped};
 
 use crate::control::{Machine, Program};
@@ -12,37 +12,6 @@ use crate::store::names::enter;
 use counters::Counter;
 use rows::{Form, Head, TermRow};
 
-// The frame that waits while the first part of a row's form is evaluated, if the form evaluates one.
-fn frame_of(term: TermRow, row: u16, env: u32) -> Option<Frame>
-    ensures { result ≡ frame_of (head_at term.kind) row term.b env }
-{
-    let Head::Form(form) = term.head() else {
-        return None;
-    };
-    let calc = |op| Frame::CalcFirst {
-        op,
-        row: term.b,
-        env,
-    };
-    match form {
-        Form::Succ => Some(Frame::Succ),
-        Form::Fst => Some(Frame::Fst),
-        Form::Snd => Some(Frame::Snd),
-        Form::Get => Some(Frame::Get),
-        Form::Ifz => Some(Frame::Ifz {
-            row: row as u32,
-            env,
-        }),
-        Form::Ap => Some(Frame::Apply { row: term.b, env }),
-        Form::Catch => Some(Frame::Catch { row: term.b, env }),
-        Form::Pair => Some(Frame::PairFirst { pair: row, env }),
-        Form::Add => Some(calc(Op::Add)),
-        Form::Sub => Some(calc(Op::Sub)),
-        Form::Mul => Some(calc(Op::Mul)),
-        Form::Lam | Form::Fix | Form::Fail => None,
-    }
-}
-
 impl Store {
     // The step at a row that is no name.
     fn eval(&mut self, program: &Program, row: u16, env: u32) -> Option<Next>
@@ -50,18 +19,48 @@ impl Store {
     {
         let place = row as u32;
         let term = program.row(place);
-        if let Some(frame) = frame_of(term, row, env) {
-            return self.open(program, frame, term.a, env);
-        }
-        let own = Closure::Row { row: place, env };
         match term.head() {
             Head::Number => Some(Next::At(Mode::Number(term.number))),
+            // It was looked up where it was entered.
+            Head::Name => Some(Next::At(Mode::Eval { row: place, env })),
             Head::Form(Form::Lam) => Some(Next::At(Mode::Lam { row, env })),
-            Head::Form(Form::Fix) => self.bind(program, Cell::bound(own, env), term.a),
             Head::Form(Form::Fail) => Some(Next::At(Mode::Fail)),
-            // a name, which was looked up where it was entered
-            _ => Some(Next::At(Mode::from(own))),
+            Head::Form(Form::Fix) => {
+                let own = Closure::Row { row: place, env };
+                self.bind(program, Cell::bound(own, env), term.a)
+            }
+            Head::Form(Form::Succ) => self.open(program, Frame::Succ, term.a, env),
+            Head::Form(Form::Fst) => self.open(program, Frame::Fst, term.a, env),
+            Head::Form(Form::Snd) => self.open(program, Frame::Snd, term.a, env),
+            Head::Form(Form::Get) => self.open(program, Frame::Get, term.a, env),
+            Head::Form(Form::Ifz) => {
+                self.open(program, Frame::Ifz { row: place, env }, term.a, env)
+            }
+            Head::Form(Form::Ap) => {
+                self.open(program, Frame::Apply { row: term.b, env }, term.a, env)
+            }
+            Head::Form(Form::Catch) => {
+                self.open(program, Frame::Catch { row: term.b, env }, term.a, env)
+            }
+            Head::Form(Form::Pair) => {
+                self.open(program, Frame::PairFirst { pair: row, env }, term.a, env)
+            }
+            Head::Form(Form::Add) => self.calculate(program, Op::Add, term, env),
+            Head::Form(Form::Sub) => self.calculate(program, Op::Sub, term, env),
+            Head::Form(Form::Mul) => self.calculate(program, Op::Mul, term, env),
         }
+    }
+
+    // An operation on two numbers is opened.
+    fn calculate(&mut self, program: &Program, op: Op, term: TermRow, env: u32) -> Option<Next>
+        ensures { (self.new, result) ≡ opened program.now (CalcFirst op term.b env) term.a env self.old }
+    {
+        let frame = Frame::CalcFirst {
+            op,
+            row: term.b,
+            env,
+        };
+        self.open(program, frame, term.a, env)
     }
 }
 
