@@ -1,5 +1,5 @@
 -- What a step keeps of a run, and what it comes to in the run that it stands for.
-use Rattle.std.proofs.Common.{◌≡◌, ℕ, ◌+◌, ◌-◌, ◌<◌, ◌≤◌, true, false, ◌≢◌, cond, List, [], map, length, Some, None, Option, sym, refl, ap, ◌∙◌, subst, arith, le-ltb}
+use Rattle.std.proofs.Common.{◌≡◌, ℕ, ◌+◌, ◌-◌, ◌<◌, ◌≤◌, false, ◌≢◌, cond, List, [], map, length, Some, None, Option, sym, refl, ap, ◌∙◌, subst, arith, le-ltb}
 use Rattle.std.proofs.lemmas.Bool.{lt-leb}
 use Rattle.std.proofs.lemmas.List.{length-map}
 use Rattle.rows.specs.declared.tables.TermRow.{TermRow}
@@ -11,7 +11,6 @@ use Rattle.theory.specs.Emit.{Tables}
 use Rattle.theory.specs.Stands.{rule_of}
 use Rattle.theory.specs.Laws as Tables
 use Rattle.checker.specs.Sheets.{tables}
-use Rattle.machine.specs.StateTyping.{WellTyped}
 use Rattle.machine.specs.Next as Next
 use Rattle.machine.specs.Laws as Machine
 use Rattle.runs.specs.Standings as R
@@ -21,12 +20,9 @@ use Rattle.runs.specs.Calls.{Running, now_at}
 use Rattle.environments.specs.Nodes.{nodes_of}
 use Rattle.environments.specs.NodeTerms.{terms_of}
 use Rattle.environments.specs.Modes as EM
-use Rattle.environments.specs.States.{State, Taken, step, start, enter}
-use Rattle.environments.specs.Stands.{stands}
-use Rattle.environments.specs.Fits.{fits}
+use Rattle.environments.specs.States.{State, step, enter}
 use Rattle.environments.specs.Runs.{Standing, standing, status, held, ended_or, opening, onto, if-going, once}
 use Rattle.environments.specs.Laws.{Laws, KeptFor}
-use Rattle.engine.specs.declared.state.Mode.{Mode}
 use Rattle.engine.specs.declared.control.Machine.{Machine as Engine}
 use Rattle.engine.specs.declared.control.Program.{Program}
 use Rattle.engine.specs.declared.run.Run.{Run}

@@ -1,5 +1,5 @@
 -- What values, closures, cells and rows stand for in the environment machine.
-use Rattle.std.proofs.Common.{◌≡◌, ℕ, zero, suc, ◌-◌, ◌<◌, ◌≤◌, cond, List, [], ◌∷◌, ◌++◌, map, get_or, eqb, ltb, Some, None, Option, Bool, true, false, sym, refl, ap, ◌∙◌, arith, ne_eqb, le-ltb, subst, ⊎_elim, leb}
+use Rattle.std.proofs.Common.{◌≡◌, ℕ, zero, suc, ◌<◌, ◌≤◌, cond, List, [], ◌∷◌, ◌++◌, map, get_or, eqb, Some, None, Option, Bool, true, false, sym, refl, ap, ◌∙◌, arith, ne_eqb, le-ltb, subst, ⊎_elim, leb}
 use Rattle.std.proofs.str.Laws.{order}
 use Rattle.std.proofs.lemmas.List.{map-append}
 use Rattle.rows.specs.Limits.{top}

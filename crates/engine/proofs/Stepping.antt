@@ -1,5 +1,5 @@
 -- The step that the machine makes is that of the environment machine.
-use Rattle.std.proofs.Common.{◌≡◌, ℕ, zero, suc, ◌+◌, ◌-◌, ◌<◌, ◌≤◌, Bool, true, false, cond, ltb, List, [], ◌∷◌, ◌++◌, map, length, get_or, Some, None, Option, sym, refl, ap, ◌∙◌, subst, arith, ne_eqb}
+use Rattle.std.proofs.Common.{◌≡◌, ℕ, zero, suc, ◌+◌, ◌-◌, ◌≤◌, Bool, true, false, cond, ltb, List, [], ◌∷◌, ◌++◌, map, length, Some, None, Option, sym, refl, ap, ◌∙◌, subst, arith, ne_eqb}
 use Rattle.std.proofs.lemmas.Bool.{ltb-true, ltb-false}
 use Rattle.std.proofs.lemmas.List.{length-map}
 use Rattle.rows.specs.declared.tables.TermRow.{TermRow}
@@ -8,17 +8,14 @@ use Rattle.rows.specs.declared.forms.Head.{Head}
 use Rattle.rows.specs.declared.forms.Head.TheVariants as H
 use Rattle.rows.specs.Forms.{head_at}
 use Rattle.rows.specs.Meanings.{Meaning}
-use Rattle.theory.specs.Syntax.{pair}
 use Rattle.theory.specs.Emit.{Tables}
 use Rattle.checker.specs.Sheets.{tables}
 use Rattle.machine.specs.Steps.{result}
 use Rattle.environments.specs.Nodes.{Node, node_in, nodes_of}
-use Rattle.environments.specs.Nodes as G
 use Rattle.environments.specs.Closures.{Closed}
 use Rattle.environments.specs.Closures as D
 use Rattle.environments.specs.Values as EV
 use Rattle.environments.specs.Cells as EC
-use Rattle.environments.specs.Frames as EF
 use Rattle.environments.specs.Modes as EM
 use Rattle.environments.specs.States.{State, Taken, enter, step, binding}
 use Rattle.environments.specs.States as E
@@ -36,13 +33,13 @@ use Rattle.engine.specs.declared.state.Next.{Next}
 use Rattle.engine.specs.declared.state.Next.TheVariants as N
 use Rattle.engine.specs.declared.control.Machine.{Machine}
 use Rattle.engine.specs.declared.control.Program.{Program}
-use Rattle.engine.specs.View.{op_of, view_frame, view_cell, mode_of, value_of, row_at, type_in}
+use Rattle.engine.specs.View.{op_of, view_frame, view_cell, mode_of, row_at, type_in}
 use Rattle.engine.specs.Contents.{Contents}
 use Rattle.engine.specs.Values.{bound_to}
-use Rattle.engine.specs.Stores.{top_of, rest_of, to_second, top_second, entered, popped, allocated}
+use Rattle.engine.specs.Stores.{top_of, rest_of, top_second, entered, popped, allocated}
 use Rattle.engine.specs.Acts.{Choice, stands_at, gave, resumed, opened, made, bound, paired, second, evaluated_by, evaluated, branched, returned, chosen}
 use Rattle.engine.specs.Choices.{state_at, state_of, suits, Open, step_of, adds_of, makes_of, Went, Blocked, at_number, at_failure, too_tall, too_full, Ready}
-use Rattle.engine.proofs.Standing.{closed_of, value_stands, limited_stands, answer_stands, left_half, right_half, bound_stands, one_more, node_by, node_at, entered_stands, enter_stands}
+use Rattle.engine.proofs.Standing.{limited_stands, answer_stands, left_half, right_half, bound_stands, one_more, node_by, node_at, entered_stands, enter_stands}
 
 clash : {P : Type 0} → ◌≡◌ {A = ℕ} 0 1 → P
 clash e = absurd (omega arith)

@@ -1,10 +1,10 @@
 -- What holds of the machine of a run: what it stands at is small, and its top frame takes what is returned.
-use Rattle.std.proofs.Common.{◌≡◌, ℕ, ◌<◌, true, List, [], ◌∷◌, map, length, Some, refl, ap, arith}
+use Rattle.std.proofs.Common.{◌≡◌, ℕ, true, List, ◌∷◌, map, length, Some, refl, ap, arith}
 use Rattle.theory.specs.Emit.{Tables}
 use Rattle.theory.specs.Laws as Tables
 use Rattle.environments.specs.Nodes.{nodes_of}
 use Rattle.environments.specs.NodeTerms.{terms_of}
-use Rattle.environments.specs.Fits.{fits, mode_fits}
+use Rattle.environments.specs.Fits.{fits}
 use Rattle.environments.specs.Laws.{Laws, Suited}
 use Rattle.engine.specs.declared.state.Frame.{Frame}
 use Rattle.engine.specs.declared.state.Frame.TheVariants as F

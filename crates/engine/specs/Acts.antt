@@ -1,5 +1,5 @@
 -- What a step does to a store, and where it leads.
-use Rattle.std.specs.Prelude.{ℕ, suc, ◌+◌, ◌-◌, cond, List, [], length, Some, None, Option, nat_lt, ◌==◌, slice_index_or, if◌then◌else◌}
+use Rattle.std.specs.Prelude.{ℕ, ◌+◌, ◌-◌, List, [], length, Some, None, Option, nat_lt, ◌==◌, slice_index_or, if◌then◌else◌}
 use Rattle.rows.specs.declared.tables.TermRow.{TermRow}
 use Rattle.rows.specs.declared.forms.Form.TheVariants as R
 use Rattle.rows.specs.declared.forms.Head.{Head}

@@ -1,13 +1,12 @@
 -- What a step of the machine comes to: the step of the environment machine, or none where the limits do not allow it.
-use Rattle.std.specs.Prelude.{◌≡◌, ℕ, ◌+◌, ◌<◌, ◌≤◌, Bool, true, false, List, [], map, length, Some, None, Option}
+use Rattle.std.specs.Prelude.{◌≡◌, ℕ, ◌+◌, ◌<◌, ◌≤◌, Bool, true, false, List, [], map, length, Some, Option}
 use Rattle.rows.specs.Meanings.{Meaning}
 use Rattle.theory.specs.Emit.{Tables}
 use Rattle.checker.specs.Sheets.{tables}
 use Rattle.runs.specs.Standings.{Status}
 use Rattle.environments.specs.Nodes.{nodes_of}
-use Rattle.environments.specs.Values as EV
 use Rattle.environments.specs.Modes as EM
-use Rattle.environments.specs.States.{State, Taken, enter, step}
+use Rattle.environments.specs.States.{State, Taken, step}
 use Rattle.environments.specs.Runs.{adds, makes, ended_or}
 use Rattle.engine.specs.declared.state.Frame.{Frame}
 use Rattle.engine.specs.declared.state.Frame.TheVariants as F

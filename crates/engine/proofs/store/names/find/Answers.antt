@@ -1,6 +1,6 @@
-use Rattle.std.proofs.Common.{◌≡◌, ℕ, suc, ◌+◌, ◌-◌, Bool, ap, ◌∙◌, arith, length}
+use Rattle.std.proofs.Common.{ℕ, ◌+◌, ◌-◌, ap, ◌∙◌, arith}
 use Rattle.engine.specs.declared.state.Closure.{Closure}
-use Rattle.engine.specs.Stores.{nearest_in, find_in}
+use Rattle.engine.specs.Stores.{find_in}
 use Rattle.engine.proofs.Names.{find_on, find_here}
 use Rattle.engine.proofs.store.names.find.Goals as goal
 
