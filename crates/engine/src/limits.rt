@@ -12,7 +12,7 @@ pub const MOST_FRAMES: u32 = 512;
 pub const MOST_CELLS: u32 = 2_048;
 
 // How many steps, frames and cells a run may have. None is above the most that there is.
-#[derive(Clone, Copy)]
+#[derive(Clone, Copy, PartialEq, Eq, Debug)]
 pub struct Limits {
     pub(crate) fuel: u32,
     pub(crate) frames: u32,
