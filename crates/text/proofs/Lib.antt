@@ -1,4 +1,5 @@
 pub mod Same
+pub mod Lexes
 pub mod Tops
 pub mod Tables
 pub mod Closes

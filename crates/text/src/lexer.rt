@@ -4,7 +4,7 @@ ghost use Rattle.grammar.specs.Bytes.{class, run as run_of, value};
 ghost use Rattle.grammar.specs.Tokens.{token as token_of, trimmed, numeral};
 ghost use Rattle.text.specs.Tokens.{step, pair};
 
-use crate::tokens::{Lexed, Token};
+use crate::tokens::Token;
 use grammar::{Class, Fault};
 
 fn class_of(b: u8) -> Class
@@ -26,17 +26,7 @@ fn run(text: &[u8], k: Class) -> usize
     ensures value { result ≡ run_of k text.now }
     ensures bound { result ≤ length text.now }
 {
-    let mut n = 0;
-    let mut left = text;
-    while let [first, rest @ ..] = left {
-        if class_of(*first) == k {
-            n += 1;
-            left = rest;
-        } else {
-            break;
-        }
-    }
-    n
+    text.iter().take_while(|b| class_of(**b) == k).count()
 }
 
 // The largest number, and one more: what a value is cut to, so that it cannot grow past 64 bits.
@@ -48,11 +38,9 @@ const PAST: u64 = TOP + 1;
 fn value_of(digits: &[u8]) -> u64
     ensures { result ≡ min 1000000000 (value digits.now 0) }
 {
-    let mut so: u64 = 0;
-    for b in digits {
-        so = (so * 10 + b.saturating_sub(b'0') as u64).min(PAST);
-    }
-    so
+    digits.iter().fold(0, |so: u64, b| {
+        (so * 10 + b.saturating_sub(b'0') as u64).min(PAST)
+    })
 }
 
 // The number at the front of a text, or nothing where its digits are missing, begin with a needless 0 or write too
@@ -67,36 +55,32 @@ fn number(text: &[u8]) -> Option<(u32, &[u8])>
         [first, ..] => *first as char != '0',
     };
     let n = value_of(digits);
-    if lawful && n <= TOP {
-        Some((n as u32, rest))
-    } else {
-        None
-    }
+    (lawful && n <= TOP).then_some((n as u32, rest))
 }
 
-// Takes one token off the front of a text that begins with no space, and keeps the rest.
-pub fn token<'a>(text: &'a [u8]) -> Lexed<'a>
+// Takes one token off the front of a text that begins with no space, and keeps the rest. At the text's end there is none.
+pub fn token<'a>(text: &'a [u8]) -> Result<Option<(Token<'a>, &'a [u8])>, Fault>
     ensures { step result ≡ token_of text.now }
 {
     let [first, rest @ ..] = text else {
-        return Lexed::Over;
+        return Ok(None);
     };
     match class_of(*first) {
-        Class::Open => Lexed::Took(Token::Open, rest),
-        Class::Close => Lexed::Took(Token::Close, rest),
-        Class::Hash => match number(rest) {
-            Some((n, after)) => Lexed::Took(Token::Name(n), after),
-            None => Lexed::Refused(Fault::BadNumber),
-        },
-        Class::Digit => match number(text) {
-            Some((n, after)) => Lexed::Took(Token::Number(n), after),
-            None => Lexed::Refused(Fault::BadNumber),
-        },
+        Class::Open => Ok(Some((Token::Open, rest))),
+        Class::Close => Ok(Some((Token::Close, rest))),
+        Class::Hash => {
+            let (n, after) = number(rest).ok_or(Fault::BadNumber)?;
+            Ok(Some((Token::Name(n), after)))
+        }
+        Class::Digit => {
+            let (n, after) = number(text).ok_or(Fault::BadNumber)?;
+            Ok(Some((Token::Number(n), after)))
+        }
         Class::Letter => {
             let (word, after) = text.split_at(run(text, Class::Letter));
-            Lexed::Took(Token::Word(word), after)
+            Ok(Some((Token::Word(word), after)))
         }
-        Class::Space | Class::Other => Lexed::Refused(Fault::BadByte),
+        Class::Space | Class::Other => Err(Fault::BadByte),
     }
 }
 

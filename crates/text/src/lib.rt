@@ -18,5 +18,5 @@ pub use opens::{Counts, OpenForm, Parts, Refusal};
 pub use reader::{MOST_BYTES, read};
 pub use refusal::WriteRefusal;
 pub use theorems::tight_reads;
-pub use tokens::{Lexed, Token};
+pub use tokens::Token;
 pub use writer::write;

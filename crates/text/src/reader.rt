@@ -8,7 +8,6 @@ ghost use Rattle.text.specs.Brackets.{rows_of, Tabled, Answers, Goes, left};
 ghost use Rattle.text.specs.Reads.{outcome, answer as answer_of, counted, made as made_of, zero_type, zero_term, padded, Filled, Ruled, Faulted};
 
 use crate::opens::{Counts, Next, OpenForm, Refusal, Turn};
-use crate::tokens::Lexed;
 use crate::{lexer, turns};
 use grammar::Fault;
 use rows::{MOST_TERMS, MOST_TYPES, Stack, TermRow, TypeRow};
@@ -24,12 +23,12 @@ fn finish(long: usize, rest: &[u8], y: u32) -> Result<u32, Refusal>
     let start = lexer::trim(rest);
     let place = long.saturating_sub(start.len());
     match lexer::token(start) {
-        Lexed::Over => Ok(y),
-        Lexed::Took(_, _) => Err(Refusal {
+        Ok(None) => Ok(y),
+        Ok(Some(_)) => Err(Refusal {
             fault: Fault::Misplaced,
             place,
         }),
-        Lexed::Refused(fault) => Err(Refusal { fault, place }),
+        Err(fault) => Err(Refusal { fault, place }),
     }
 }
 
@@ -51,12 +50,12 @@ fn next<'a>(
     let start = lexer::trim(rest);
     let place = long.saturating_sub(start.len());
     match lexer::token(start) {
-        Lexed::Over => Next::End(Err(Refusal {
+        Ok(None) => Next::End(Err(Refusal {
             fault: Fault::Misplaced,
             place,
         })),
-        Lexed::Refused(fault) => Next::End(Err(Refusal { fault, place })),
-        Lexed::Took(tok, after) => match turns::turn(types, terms, counts, opens, tok) {
+        Err(fault) => Next::End(Err(Refusal { fault, place })),
+        Ok(Some((tok, after))) => match turns::turn(types, terms, counts, opens, tok) {
             Turn::Go => Next::Go(after),
             Turn::Done(y) => Next::End(finish(long, after, y)),
             Turn::Stop(fault) => Next::End(Err(Refusal { fault, place })),

@@ -1,6 +1,6 @@
 // What a token leads to, by what the open bracket on top still wants.
 ghost use Rattle.std.specs.Prelude.{◌≡◌, ℕ, ◌<◌, ◌≤◌, List, [], ◌∷◌, ◌++◌, length, take, Some};
-ghost use Rattle.rows.specs.Rows.{leaf_row, row_alike, row_place};
+ghost use Rattle.rows.specs.Rows.{leaf_row};
 ghost use Rattle.rows.specs.Views.{room};
 ghost use Rattle.rows.specs.declared.tables.TypeRow.{TypeRow};
 ghost use Rattle.rows.specs.declared.tables.TermRow.{TermRow};
@@ -14,7 +14,7 @@ use crate::opens::{Counts, OpenForm, Parts, Turn, Want};
 use crate::tokens::Token;
 use crate::words;
 use grammar::Fault;
-use rows::{Stack, TermRow, TypeRow};
+use rows::{Stack, TermRow, TypeRow, find_type};
 
 fn no_parts() -> Parts
     ensures { listed result ≡ [] }
@@ -173,24 +173,6 @@ fn make_row(
     terms[place] = row;
     *count = place + 1;
     give_term(opens, place as u32)
-}
-
-fn same_row(p: TypeRow, q: TypeRow) -> bool
-    ensures { result ≡ row_alike p q }
-{
-    p.kind == q.kind && p.left == q.left && p.right == q.right
-}
-
-// The place of the first equal row, or the number of rows.
-fn find_type(made: &[TypeRow], row: TypeRow) -> usize
-    ensures { result ≡ row_place row made.now }
-{
-    for (i, t) in made.iter().enumerate() {
-        if same_row(row, *t) {
-            return i;
-        }
-    }
-    made.len()
 }
 
 // Makes a type row unless there is an equal one; it goes into the bracket around it.

@@ -1,26 +1,16 @@
-use Rattle.std.proofs.Common.{◌≡◌, ◌<◌, length, sym, ap, ◌∙◌, arith, rules, ltb-false, ltb-true}
-use Rattle.std.proofs.lemmas.List.{nil_from_length}
+use Rattle.std.proofs.Common.{rules, tests, ◌∙◌}
+use denote.Enum.Bare.{sameb}
+use Rattle.std.proofs.lemmas.Iterator.{YieldsList-from_slice}
+use Rattle.std.proofs.lemmas.Iterator.Consumers.{count_from_yields_List}
+use Rattle.std.proofs.lemmas.Iterator.Search.{YieldsList-from_take_while}
+use Rattle.std.proofs.lemmas.List.Folds.{length-prefix_len}
 use Rattle.grammar.specs.contracts.bytes.Class.{the_type}
-use Rattle.grammar.specs.Bytes.{run}
-use Rattle.grammar.specs.Runs.{split, run_more, run_none}
-use denote.Enum.Bare.{same_true, same_false}
+use Rattle.grammar.specs.Bytes.{class}
+use Rattle.text.proofs.Lexes.{run_is}
 use Rattle.text.proofs.lexer.run.Goals as goal
 
-pub loop-left-preserved : goal.loop-left-preserved
-loop-left-preserved c =
-    let some : 0 < length c.loop-left.left.now = omega (arith, ltb-false) in
-    let alike : c.class_of.result ≡ c.args.k = same_true the_type (search rules) _ _ (sym c.if-eq.ensures) in
-    let more = run_more c.args.k c.loop-left.left.now some (sym c.class_of.ensures ∙ alike) in
-    let cut = ap length (split c.loop-left.left.now some) in
-    (omega arith, omega arith)
-
-pub returns-in_default : goal.returns-in_default
-returns-in_default c =
-    let none = nil_from_length c.loop-left.left.now (omega (arith, ltb-true)) in
-    let left = ap (run c.args.k) none in
-    record { value = omega arith; bound = omega arith }
-
-pub returns-else-eq : goal.returns-else-eq
-returns-else-eq c =
-    let left = run_none c.args.k c.loop-left.left.now (omega (arith, ltb-false)) (λ e. same_false the_type c.class_of.result c.args.k (sym c.if-eq.ensures) (c.class_of.ensures ∙ e)) in
-    record { value = omega arith; bound = omega arith }
+pub returns-clause-value : goal.returns-clause-value
+returns-clause-value c =
+    count_from_yields_List c.take_while.result _ c.count.ensures.ran
+    (YieldsList-from_take_while _ (λ b. sameb the_type (class b) c.args.k) (YieldsList-from_slice c.args.text.now (cc)) c.take_while.ensures.closure c.take_while.ensures.done (λ x b q k. search (rules, tests)))
+    ∙ length-prefix_len (λ b. sameb the_type (class b) c.args.k) c.args.text.now ∙ run_is c.args.k c.args.text.now
