@@ -297,17 +297,14 @@ fn on_term(
 }
 
 // A token where a type is wanted.
+#[tactic(auto, using(crate::proofs::Same::same_apart))]
 fn on_type(opens: &mut Stack<OpenForm>, tok: Token) -> Turn
     ensures turned { (tn en : ℕ) (s : Tables) → Meets result s (brackets opens.new) (meet (into_tables tn en) (room opens.old) a_type (tok_of tok.entry) s (brackets opens.old)) }
     ensures capacity { room opens.new ≡ room opens.old }
 {
     match tok {
         Token::Open => open(opens, OpenForm::TypeWord),
-        Token::Word(w) => if words::is(w, b"nat") {
-            give_type(opens, 0)
-        } else {
-            Turn::Stop(Fault::Misplaced)
-        },
+        Token::Word(b"nat") => give_type(opens, 0),
         _ => Turn::Stop(Fault::Misplaced),
     }
 }

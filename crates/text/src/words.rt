@@ -5,79 +5,39 @@ ghost use Rattle.text.specs.Writes.{shape_at};
 
 use rows::{Form, Shape, TermRow};
 
-// Whether two words are the same bytes.
-pub(crate) fn is(a: &[u8], b: &[u8]) -> bool
-    ensures { result ≡ same a.now b.now }
-{
-    let [x, xs @ ..] = a else {
-        return b.len() == 0;
-    };
-    let [y, ys @ ..] = b else {
-        return false;
-    };
-    *x == *y && is(xs, ys)
-}
+// Every form, in the order of their kinds.
+const FORMS: [Form; 14] = [
+    Form::Succ,
+    Form::Ifz,
+    Form::Lam,
+    Form::Ap,
+    Form::Fix,
+    Form::Pair,
+    Form::Fst,
+    Form::Snd,
+    Form::Add,
+    Form::Sub,
+    Form::Mul,
+    Form::Get,
+    Form::Fail,
+    Form::Catch,
+];
 
 // The form of a word.
 pub(crate) fn form_of(w: &[u8]) -> Option<Form>
     ensures { result ≡ form_of w.now }
 {
-    if is(w, b"s") {
-        return Some(Form::Succ);
-    }
-    if is(w, b"ifz") {
-        return Some(Form::Ifz);
-    }
-    if is(w, b"lam") {
-        return Some(Form::Lam);
-    }
-    if is(w, b"ap") {
-        return Some(Form::Ap);
-    }
-    if is(w, b"fix") {
-        return Some(Form::Fix);
-    }
-    if is(w, b"pair") {
-        return Some(Form::Pair);
-    }
-    if is(w, b"fst") {
-        return Some(Form::Fst);
-    }
-    if is(w, b"snd") {
-        return Some(Form::Snd);
-    }
-    if is(w, b"add") {
-        return Some(Form::Add);
-    }
-    if is(w, b"sub") {
-        return Some(Form::Sub);
-    }
-    if is(w, b"mul") {
-        return Some(Form::Mul);
-    }
-    if is(w, b"get") {
-        return Some(Form::Get);
-    }
-    if is(w, b"fail") {
-        return Some(Form::Fail);
-    }
-    if is(w, b"catch") {
-        return Some(Form::Catch);
-    }
-    None
+    FORMS.iter().copied().find(|f| w == word_of(*f))
 }
 
 // The shape of a type that a word names.
 pub(crate) fn shape_of(w: &[u8]) -> Option<Shape>
     ensures { result ≡ shape_of w.now }
 {
-    if is(w, b"to") {
-        Some(Shape::To)
-    } else if is(w, b"both") {
-        Some(Shape::Both)
-    } else {
-        None
-    }
+    [Shape::To, Shape::Both]
+        .iter()
+        .copied()
+        .find(|k| w == shape_word(k.kind()))
 }
 
 // The word of a form.
