@@ -1,8 +1,8 @@
 pub mod Same
-pub mod Lexes
 pub mod Tops
 pub mod Tables
 pub mod Closes
+pub mod Lexes
 pub mod Fuel
 pub mod Loops
 pub mod Whole

@@ -28,11 +28,6 @@ abbrev pub made : Outcome Tables ℕ → Tables
 made (accepted s y) = s
 made (refused_at f p) = ([], [])
 
--- how many rows an answer counts
-abbrev pub counted : Result Counts Refusal → ℕ × ℕ
-counted (Ok n) = (n.types, n.terms)
-counted (Err f) = (0, 0)
-
 -- rows of zeros
 abbrev pub zero_type : TypeRow
 zero_type = nat_row

@@ -1,17 +1,16 @@
-// What a reading works on: open brackets, and what a token leads to.
-ghost use Rattle.std.specs.Prelude.{◌≡◌, ◌<◌, ◌≤◌};
+// What a reading works on: the tables, the brackets that are open, and what goes into them.
+ghost use Rattle.std.specs.Prelude.{◌≡◌, ◌≤◌, ℕ, length, slice_index};
 
 use grammar::Fault;
-use rows::{Form, Shape};
+use rows::{Form, Shape, Stack, TermRow, TypeRow};
 
 // Up to three rows; those that are not there yet are 0.
 #[derive(Clone, Copy)]
 pub struct Parts {
     pub(crate) count: u8,
-    pub(crate) a: u32,
-    pub(crate) b: u32,
-    pub(crate) c: u32,
-    ghost clean: { (count ≤ 3) × (count < 1 → a ≡ 0) × (count < 2 → b ≡ 0) × (count < 3 → c ≡ 0) },
+    pub(crate) rows: [u32; 3],
+    ghost few: { count ≤ 3 },
+    ghost clean: { (i : ℕ) → count ≤ i → slice_index rows i ≡ 0 },
 }
 
 // An open bracket: its word is still wanted, or it has a word and holds these types and terms so far.
@@ -33,23 +32,15 @@ pub(crate) enum Want {
     Close,
 }
 
-// What a token leads to: more tokens, the whole rule, whose row this is, or a fault.
+// The row of a whole type or term, which goes into the bracket around it.
 #[derive(Clone, Copy)]
-pub(crate) enum Turn {
-    Go,
-    Done(u32),
-    Stop(Fault),
-}
-
-// After a token: the text that is left, or the end of the reading, with the rule's row.
-#[derive(Clone, Copy)]
-pub(crate) enum Next<'a> {
-    Go(&'a [u8]),
-    End(Result<u32, Refusal>),
+pub(crate) enum Part {
+    Type(u32),
+    Term(u32),
 }
 
 // How many rows have been made.
-#[derive(Clone, Copy, PartialEq, Eq, Debug)]
+#[derive(Clone, Copy, PartialEq, Eq, Debug, Default)]
 pub struct Counts {
     pub types: usize,
     pub terms: usize,
@@ -60,4 +51,17 @@ pub struct Counts {
 pub struct Refusal {
     pub fault: Fault,
     pub place: usize,
+}
+
+// The tables that are filled, with the rows made so far at their front, and the open brackets.
+#[derive(Drop)]
+pub(crate) struct Reader<'a, 'b> {
+    pub(crate) types: &'a mut [TypeRow],
+    pub(crate) terms: &'a mut [TermRow],
+    pub(crate) made: Counts,
+    pub(crate) opens: &'a mut Stack<'b, OpenForm>,
+    ghost types_within: { made.types ≤ length types.now },
+    ghost terms_within: { made.terms ≤ length terms.now },
+    ghost few_types: { length types.now ≤ 1024 },
+    ghost few_terms: { length terms.now ≤ 2048 },
 }

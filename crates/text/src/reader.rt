@@ -1,98 +1,95 @@
 // Reads the text of a rule into its two tables.
-ghost use Rattle.std.specs.Prelude.{◌≡◌, ◌-◌, ◌≤◌, length, take, replicate};
-ghost use Rattle.rows.specs.Views.{room};
-ghost use Rattle.theory.specs.Emit.{Tables};
-ghost use Rattle.grammar.specs.Tokens.{token as token_of, trimmed};
-ghost use Rattle.grammar.specs.Reader.{ended};
-ghost use Rattle.text.specs.Brackets.{rows_of, Tabled, Answers, Goes, left};
-ghost use Rattle.text.specs.Reads.{outcome, answer as answer_of, counted, made as made_of, zero_type, zero_term, padded, Filled, Ruled, Faulted};
+ghost use Rattle.std.specs.Prelude.{◌≡◌, ◌<◌, ◌≤◌, length, slice_set};
+ghost use Rattle.rows.specs.Rows.{nat_row};
+ghost use Rattle.theory.specs.Emit.{empty};
+ghost use Rattle.grammar.specs.Reader.{read as reading};
+ghost use Rattle.grammar.specs.TableMaker.{into_tables};
+ghost use Rattle.text.specs.Brackets.{rows_of, Same, answered, left};
+ghost use Rattle.text.specs.Reads.{outcome, answer as answer_of, made as made_of, zero_type, zero_term, padded, Filled, Ruled, Faulted};
 
-use crate::opens::{Counts, Next, OpenForm, Refusal, Turn};
-use crate::{lexer, turns};
+use crate::lexer;
+use crate::opens::{Counts, OpenForm, Reader, Refusal};
 use grammar::Fault;
 use rows::{MOST_TERMS, MOST_TYPES, Stack, TermRow, TypeRow};
 
 // The most bytes of a text.
 pub const MOST_BYTES: usize = 16_384;
 
-// After the rule only spaces may follow.
-fn finish(long: usize, rest: &[u8], y: u32) -> Result<u32, Refusal>
-    requires { length rest.now ≤ long }
-    ensures { (s : Tables) → Answers result s (ended (long - length (trimmed rest.now)) s y (token_of (trimmed rest.now))) }
-{
-    let start = lexer::trim(rest);
-    let place = long.saturating_sub(start.len());
-    match lexer::token(start) {
-        Ok(None) => Ok(y),
-        Ok(Some(_)) => Err(Refusal {
-            fault: Fault::Misplaced,
-            place,
-        }),
-        Err(fault) => Err(Refusal { fault, place }),
+impl<'a, 'b> Reader<'a, 'b> {
+    // Begins with one type row, which is nat.
+    fn new(
+        types: &'a mut [TypeRow],
+        terms: &'a mut [TermRow],
+        opens: &'a mut Stack<'b, OpenForm>,
+    ) -> Reader<'a, 'b>
+        requires some_types { 0 < length types.old }
+        requires few_types { length types.old ≤ 1024 }
+        requires few_terms { length terms.old ≤ 2048 }
+        ensures same_types { result.types.ghost_name ≡ types.entry.ghost_name }
+        ensures same_terms { result.terms.ghost_name ≡ terms.entry.ghost_name }
+        ensures types { result.types.now ≡ slice_set types.old 0 nat_row }
+        ensures terms { result.terms.now ≡ terms.old }
+        ensures made { result.made ≡ record { types = 1; terms = 0 } }
+        ensures opens { result.opens.now ≡ opens.old }
+    {
+        types[0] = TypeRow::ZERO;
+        Reader {
+            types,
+            terms,
+            made: Counts { types: 1, terms: 0 },
+            opens,
+        }
     }
-}
 
-// Reads one token.
-fn next<'a>(
-    long: usize,
-    rest: &'a [u8],
-    types: &mut [TypeRow],
-    terms: &mut [TermRow],
-    counts: &mut Counts,
-    opens: &mut Stack<OpenForm>,
-) -> Next<'a>
-    requires tabled { Tabled types.old terms.old counts.old }
-    requires within { length rest.now ≤ long }
-    ensures goes { Goes result (λ bs. left long bs types.new terms.new counts.new opens.new) rest.now (rows_of types.new terms.new counts.new) (left long rest.now types.old terms.old counts.old opens.old) }
-    ensures tabled { Tabled types.new terms.new counts.new }
-    ensures capacity { room opens.new ≡ room opens.old }
-{
-    let start = lexer::trim(rest);
-    let place = long.saturating_sub(start.len());
-    match lexer::token(start) {
-        Ok(None) => Next::End(Err(Refusal {
-            fault: Fault::Misplaced,
-            place,
-        })),
-        Err(fault) => Next::End(Err(Refusal { fault, place })),
-        Ok(Some((tok, after))) => match turns::turn(types, terms, counts, opens, tok) {
-            Turn::Go => Next::Go(after),
-            Turn::Done(y) => Next::End(finish(long, after, y)),
-            Turn::Stop(fault) => Next::End(Err(Refusal { fault, place })),
-        },
-    }
-}
-
-// Reads a whole text.
-fn run(
-    text: &[u8],
-    types: &mut [TypeRow],
-    terms: &mut [TermRow],
-    counts: &mut Counts,
-    opens: &mut Stack<OpenForm>,
-) -> Result<u32, Refusal>
-    requires { Tabled types.old terms.old counts.old }
-    ensures answers { Answers result (rows_of types.new terms.new counts.new) (left (length text.now) text.now types.old terms.old counts.old opens.old) }
-    ensures tabled { Tabled types.new terms.new counts.new }
-{
-    let long = text.len();
-    let mut rest = text;
-    loop {
-        match next(long, rest, types, terms, counts, opens) {
-            Next::Go(after) => rest = after,
-            Next::End(r) => return r,
+    // Reads a whole text: the row of the rule. After the rule only spaces may follow.
+    fn run(&mut self, text: &[u8]) -> Result<u32, Refusal>
+        ensures answers { answered result (rows_of self.new) ≡ left (length text.now) text.now self.old }
+        ensures same { Same self.old self.new }
+    {
+        let mut rest = text;
+        let mut row = None;
+        loop {
+            let start = lexer::trim(rest);
+            let place = text.len() - start.len();
+            let refused = |fault| Refusal { fault, place };
+            match lexer::token(start).map_err(refused)? {
+                None => return row.ok_or(refused(Fault::Misplaced)),
+                Some(_) if row.is_some() => return Err(refused(Fault::Misplaced)),
+                Some((token, after)) => {
+                    row = self.turn(token).map_err(refused)?;
+                    rest = after;
+                }
+            }
         }
     }
 }
 
-// Fills the front of both tables; what stands behind is left, and all of it after a refusal is of no account.
+// Reads a text that is not too long into two tables that are not too large. Type row 0 is nat.
 fn fill(
     text: &[u8],
     types: &mut [TypeRow],
     terms: &mut [TermRow],
-    rows: &mut [OpenForm],
+    opens: &mut [OpenForm],
 ) -> Result<Counts, Refusal>
-    ensures { Filled result types.new terms.new (outcome types.old terms.old rows.old text.now) }
+    requires some_types { 0 < length types.old }
+    requires few_types { length types.old ≤ 1024 }
+    requires few_terms { length terms.old ≤ 2048 }
+    ensures { Filled result types.new terms.new (reading (into_tables (length types.old) (length terms.old)) (length opens.old) (length text.now) text.now empty) }
+{
+    let mut opens = Stack::new(opens);
+    let mut reader = Reader::new(types, terms, &mut opens);
+    reader.run(text)?;
+    Ok(reader.made)
+}
+
+// Fills the front of both tables; what stands behind is left, and all of it after a refusal is of no account.
+fn fill_front(
+    text: &[u8],
+    types: &mut [TypeRow],
+    terms: &mut [TermRow],
+    opens: &mut [OpenForm],
+) -> Result<Counts, Refusal>
+    ensures { Filled result types.new terms.new (outcome types.old terms.old opens.old text.now) }
 {
     if text.len() > MOST_BYTES {
         return Err(Refusal {
@@ -100,53 +97,20 @@ fn fill(
             place: MOST_BYTES,
         });
     }
-    if types.len() == 0 {
+    if types.is_empty() {
         return Err(Refusal {
             fault: Fault::NoTypeRow,
             place: 0,
         });
     }
-    types[0] = TypeRow::ZERO;
     let type_room = types.len().min(MOST_TYPES);
     let term_room = terms.len().min(MOST_TERMS);
-    let mut counts = Counts { types: 1, terms: 0 };
-    let mut opens = Stack::new(rows);
-    match run(
+    fill(
         text,
-        &mut types[0..type_room],
-        &mut terms[0..term_room],
-        &mut counts,
-        &mut opens,
-    ) {
-        Ok(_) => Ok(counts),
-        Err(refusal) => Err(refusal),
-    }
-}
-
-fn clear<T: Copy>(rows: &mut [T], zero: T)
-    ensures { rows.new ≡ replicate (length rows.old) zero }
-{
-    for r in rows.iter_mut() {
-        *r = zero;
-    }
-}
-
-// Clears the rows behind the first `made`.
-fn clear_rest<T: Copy>(rows: &mut [T], made: usize, zero: T)
-    requires { made ≤ length rows.old }
-    ensures { rows.new ≡ padded zero (length rows.old) (take made rows.old) }
-{
-    clear(&mut rows[made..], zero);
-}
-
-// How many rows stand after a reading.
-fn made_by(answer: Result<Counts, Refusal>) -> (usize, usize)
-    ensures { result ≡ counted answer }
-{
-    match answer {
-        Ok(counts) => (counts.types, counts.terms),
-        Err(_) => (0, 0),
-    }
+        &mut types[..type_room],
+        &mut terms[..term_room],
+        opens,
+    )
 }
 
 // Reads a text into the two tables handed over, with `opens` for the brackets that are open at once. What it answers
@@ -165,9 +129,9 @@ pub fn read(
 {
     grammar::reads_exactly();
     grammar::refuses_rightly();
-    let answer = fill(text, types, terms, opens);
-    let (made_types, made_terms) = made_by(answer);
-    clear_rest(types, made_types, TypeRow::ZERO);
-    clear_rest(terms, made_terms, TermRow::ZERO);
+    let answer = fill_front(text, types, terms, opens);
+    let made = answer.unwrap_or_default();
+    types[made.types..].fill(TypeRow::ZERO);
+    terms[made.terms..].fill(TermRow::ZERO);
     answer
 }

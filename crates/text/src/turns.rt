@@ -1,58 +1,73 @@
 // What a token leads to, by what the open bracket on top still wants.
-ghost use Rattle.std.specs.Prelude.{◌≡◌, ℕ, ◌<◌, ◌≤◌, List, [], ◌∷◌, ◌++◌, length, take, Some};
-ghost use Rattle.rows.specs.Rows.{leaf_row};
+ghost use Rattle.std.specs.Prelude.{◌≡◌, ◌<◌, [], ◌∷◌, ◌++◌, length, Some};
+ghost use Rattle.rows.specs.Rows.{leaf_row, row_place};
 ghost use Rattle.rows.specs.Views.{room};
-ghost use Rattle.rows.specs.declared.tables.TypeRow.{TypeRow};
-ghost use Rattle.rows.specs.declared.tables.TermRow.{TermRow};
 ghost use Rattle.theory.specs.Emit.{Tables};
-ghost use Rattle.grammar.specs.Reader.{wanted, a_term, a_type, a_term_word, a_type_word, give, give_type, made, made_type, opened, replaced, meet};
-ghost use Rattle.grammar.specs.TableMaker.{into_tables, row_made, type_made};
+ghost use Rattle.grammar.specs.Reader.{wanted, made, made_type, opened, replaced};
+ghost use Rattle.grammar.specs.TableMaker.{row_made, type_made};
 ghost use Rattle.text.specs.Tokens.{tok as tok_of};
-ghost use Rattle.text.specs.Brackets.{listed, bracket, brackets, want as want_of, each, with_part, with_type as type_more, Meets, Tabled, After, closed_in, met_in, turn_in};
+ghost use Rattle.text.specs.Brackets.{listed, bracket, brackets, want as want_of, each, with_part, given, turned, rows_of, met, Same, closed_in, turn_in};
 
-use crate::opens::{Counts, OpenForm, Parts, Turn, Want};
+use crate::opens::{OpenForm, Part, Parts, Reader, Want};
 use crate::tokens::Token;
 use crate::words;
 use grammar::Fault;
 use rows::{Stack, TermRow, TypeRow, find_type};
 
-fn no_parts() -> Parts
-    ensures { listed result ≡ [] }
-{
-    Parts {
-        count: 0,
-        a: 0,
-        b: 0,
-        c: 0,
+impl Parts {
+    fn none() -> Parts
+        ensures { listed result ≡ [] }
+    {
+        Parts {
+            count: 0,
+            rows: [0; 3],
+        }
+    }
+
+    // One row more.
+    fn with(self, row: u32) -> Parts
+        requires { length (listed self) < 3 }
+        ensures { listed result ≡ listed self ++ row ∷ [] }
+    {
+        let Parts { count, mut rows } = self;
+        rows[count as usize] = row;
+        Parts {
+            count: count + 1,
+            rows,
+        }
     }
 }
 
-// One row more.
-fn with(p: Parts, place: u32) -> Parts
-    requires { length (listed p) < 3 }
-    ensures { listed result ≡ listed p ++ place ∷ [] }
-{
-    let Parts { count, a, b, c } = p;
-    if count == 0 {
-        Parts {
-            count: 1,
-            a: place,
-            b,
-            c,
+impl OpenForm {
+    // What the next token in the bracket has to begin, or to be.
+    fn wants(self) -> Want
+        ensures { want_of result ≡ wanted (bracket self ∷ []) }
+    {
+        match self {
+            OpenForm::TermWord => Want::TermWord,
+            OpenForm::TypeWord => Want::TypeWord,
+            OpenForm::Type(_, p) if p.count < 2 => Want::Type,
+            OpenForm::Term(f, p, _) if p.count < f.types() => Want::Type,
+            OpenForm::Term(f, _, q) if q.count < f.parts() => Want::Term,
+            _ => Want::Close,
         }
-    } else if count == 1 {
-        Parts {
-            count: 2,
-            a,
-            b: place,
-            c,
-        }
-    } else {
-        Parts {
-            count: 3,
-            a,
-            b,
-            c: place,
+    }
+
+    // The bracket with one part more, where it wants such a part.
+    fn with(self, part: Part) -> Option<OpenForm>
+        ensures { each result ≡ with_part (bracket self) part }
+    {
+        match (self, part) {
+            (OpenForm::Type(k, p), Part::Type(x)) if p.count < 2 => {
+                Some(OpenForm::Type(k, p.with(x)))
+            }
+            (OpenForm::Term(f, p, q), Part::Type(x)) if p.count < f.types() => {
+                Some(OpenForm::Term(f, p.with(x), q))
+            }
+            (OpenForm::Term(f, p, q), Part::Term(y)) if q.count < f.parts() => {
+                Some(OpenForm::Term(f, p, q.with(y)))
+            }
+            _ => None,
         }
     }
 }
@@ -61,301 +76,143 @@ fn with(p: Parts, place: u32) -> Parts
 fn want(opens: &Stack<OpenForm>) -> Want
     ensures { want_of result ≡ wanted (brackets opens.now) }
 {
-    match opens.top() {
-        None => Want::Term,
-        Some(top) => want_at(top),
-    }
+    opens.top().map_or(Want::Term, |top| top.wants())
 }
 
-fn want_at(top: OpenForm) -> Want
-    ensures { want_of result ≡ wanted (bracket top ∷ []) }
+// A whole type or term goes into the bracket around it. A term with none around it is the rule.
+fn give(opens: &mut Stack<OpenForm>, part: Part) -> Result<Option<u32>, Fault>
+    ensures turned { (s : Tables) → turned result s (brackets opens.new) ≡ given part s (brackets opens.old) }
+    ensures capacity { room opens.new ≡ room opens.old }
 {
-    match top {
-        OpenForm::TermWord => Want::TermWord,
-        OpenForm::TypeWord => Want::TypeWord,
-        OpenForm::Type(_, p) => if p.count < 2 { Want::Type } else { Want::Close },
-        OpenForm::Term(f, p, q) => {
-            if p.count < f.types() {
-                Want::Type
-            } else if q.count < f.parts() {
-                Want::Term
-            } else {
-                Want::Close
-            }
+    match (opens.top(), part) {
+        (None, Part::Term(y)) => Ok(Some(y)),
+        (None, Part::Type(_)) => Err(Fault::Misplaced),
+        (Some(top), _) => {
+            let more = top.with(part).ok_or(Fault::Misplaced)?;
+            opens.replace_top(more);
+            Ok(None)
         }
     }
-}
-
-// An open bracket with one term more.
-fn with_term(top: OpenForm, y: u32) -> Option<OpenForm>
-    ensures { each result ≡ with_part (bracket top) y }
-{
-    match top {
-        OpenForm::Term(f, p, q) => if q.count < f.parts() {
-            Some(OpenForm::Term(f, p, with(q, y)))
-        } else {
-            None
-        },
-        _ => None,
-    }
-}
-
-// A whole term goes into the bracket around it.
-fn give_term(opens: &mut Stack<OpenForm>, y: u32) -> Turn
-    ensures turned { (s : Tables) → Meets result s (brackets opens.new) (give s y (brackets opens.old)) }
-    ensures capacity { room opens.new ≡ room opens.old }
-{
-    match opens.top() {
-        None => Turn::Done(y),
-        Some(top) => match with_term(top, y) {
-            Some(o) => {
-                opens.replace_top(o);
-                Turn::Go
-            }
-            None => Turn::Stop(Fault::Misplaced),
-        },
-    }
-}
-
-// An open bracket with one type more.
-fn with_type(top: OpenForm, x: u32) -> Option<OpenForm>
-    ensures { each result ≡ type_more (bracket top) x }
-{
-    match top {
-        OpenForm::Type(k, p) => if p.count < 2 {
-            Some(OpenForm::Type(k, with(p, x)))
-        } else {
-            None
-        },
-        OpenForm::Term(f, p, q) => if p.count < f.types() {
-            Some(OpenForm::Term(f, with(p, x), q))
-        } else {
-            None
-        },
-        _ => None,
-    }
-}
-
-// A whole type goes into the bracket around it.
-fn give_type(opens: &mut Stack<OpenForm>, x: u32) -> Turn
-    ensures turned { (s : Tables) → Meets result s (brackets opens.new) (give_type s x (brackets opens.old)) }
-    ensures capacity { room opens.new ≡ room opens.old }
-{
-    match opens.top() {
-        None => Turn::Stop(Fault::Misplaced),
-        Some(top) => match with_type(top, x) {
-            Some(o) => {
-                opens.replace_top(o);
-                Turn::Go
-            }
-            None => Turn::Stop(Fault::Misplaced),
-        },
-    }
-}
-
-// Makes a term row, which goes into the bracket around it.
-fn make_row(
-    terms: &mut [TermRow],
-    count: &mut usize,
-    opens: &mut Stack<OpenForm>,
-    row: TermRow,
-) -> Turn
-    requires within { count.old ≤ length terms.old }
-    requires few { length terms.old ≤ 2048 }
-    ensures turned { (ts : List TypeRow) → Meets result (ts, take count.new terms.new) (brackets opens.new) (made (row_made (length terms.old) row (ts, take count.old terms.old)) (brackets opens.old)) }
-    ensures within { count.new ≤ length terms.new }
-    ensures capacity { room opens.new ≡ room opens.old }
-{
-    let place = *count;
-    if place >= terms.len() {
-        return Turn::Stop(Fault::NoTermRow);
-    }
-    terms[place] = row;
-    *count = place + 1;
-    give_term(opens, place as u32)
-}
-
-// Makes a type row unless there is an equal one; it goes into the bracket around it.
-fn make_type(
-    types: &mut [TypeRow],
-    count: &mut usize,
-    opens: &mut Stack<OpenForm>,
-    row: TypeRow,
-) -> Turn
-    requires within { count.old ≤ length types.old }
-    requires few { length types.old ≤ 1024 }
-    ensures turned { (es : List TermRow) → Meets result (take count.new types.new, es) (brackets opens.new) (made_type (type_made (length types.old) row (take count.old types.old, es)) (brackets opens.old)) }
-    ensures within { count.new ≤ length types.new }
-    ensures capacity { room opens.new ≡ room opens.old }
-{
-    let made = *count;
-    let place = find_type(&types[0..made], row);
-    if place < made {
-        return give_type(opens, place as u32);
-    }
-    if made >= types.len() {
-        return Turn::Stop(Fault::NoTypeRow);
-    }
-    types[made] = row;
-    *count = made + 1;
-    give_type(opens, made as u32)
 }
 
 // Opens a bracket, where there is an open row for it.
-fn open(opens: &mut Stack<OpenForm>, o: OpenForm) -> Turn
-    ensures turned { (s : Tables) → Meets result s (brackets opens.new) (opened (room opens.old) (bracket o) s (brackets opens.old)) }
+fn open(opens: &mut Stack<OpenForm>, o: OpenForm) -> Result<Option<u32>, Fault>
+    ensures turned { (s : Tables) → turned result s (brackets opens.new) ≡ opened (room opens.old) (bracket o) s (brackets opens.old) }
     ensures capacity { room opens.new ≡ room opens.old }
 {
-    match opens.push(o) {
-        Ok(()) => Turn::Go,
-        Err(_) => Turn::Stop(Fault::TooDeep),
-    }
+    opens.push(o).map_err(|_| Fault::TooDeep)?;
+    Ok(None)
 }
 
 // Gives the bracket on top its word.
-fn spell(opens: &mut Stack<OpenForm>, o: OpenForm) -> Turn
-    ensures turned { (s : Tables) → Meets result s (brackets opens.new) (replaced (Some (bracket o)) s (brackets opens.old)) }
+fn spell(opens: &mut Stack<OpenForm>, o: OpenForm) -> Result<Option<u32>, Fault>
+    ensures turned { (s : Tables) → turned result s (brackets opens.new) ≡ replaced (Some (bracket o)) s (brackets opens.old) }
     ensures capacity { room opens.new ≡ room opens.old }
 {
-    match opens.top() {
-        None => Turn::Stop(Fault::Misplaced),
-        Some(_) => {
-            opens.replace_top(o);
-            Turn::Go
-        }
-    }
+    opens.top().ok_or(Fault::Misplaced)?;
+    opens.replace_top(o);
+    Ok(None)
 }
 
-// Makes the row of the bracket on top, which is whole.
-fn close(
-    types: &mut [TypeRow],
-    terms: &mut [TermRow],
-    counts: &mut Counts,
-    opens: &mut Stack<OpenForm>,
-) -> Turn
-    requires { Tabled types.old terms.old counts.old }
-    ensures { After result types.new terms.new counts.new opens.old opens.new (closed_in types.old terms.old counts.old opens.old) }
-{
-    match opens.pop() {
-        None => Turn::Stop(Fault::Misplaced),
-        Some(top) => match top {
-            OpenForm::TermWord => Turn::Stop(Fault::Misplaced),
-            OpenForm::TypeWord => Turn::Stop(Fault::Misplaced),
-            OpenForm::Type(k, p) => {
-                let row = TypeRow {
-                    kind: k.kind(),
-                    left: p.a,
-                    right: p.b,
-                };
-                make_type(types, &mut counts.types, opens, row)
-            }
-            OpenForm::Term(f, p, q) => {
-                let row = TermRow {
-                    kind: f.kind(),
-                    ty: p.a,
-                    number: 0,
-                    a: q.a,
-                    b: q.b,
-                    c: q.c,
-                };
-                make_row(terms, &mut counts.terms, opens, row)
-            }
-        },
-    }
-}
-
+// A row of kind 0, a number, or 1, a name.
 fn leaf(kind: u8, number: u32) -> TermRow
     ensures { result ≡ leaf_row kind number }
 {
     TermRow {
         kind,
-        ty: 0,
         number,
-        a: 0,
-        b: 0,
-        c: 0,
+        ..TermRow::ZERO
     }
 }
 
-// A token where a term is wanted.
-fn on_term(
-    types: &mut [TypeRow],
-    terms: &mut [TermRow],
-    counts: &mut Counts,
-    opens: &mut Stack<OpenForm>,
-    tok: Token,
-) -> Turn
-    requires { Tabled types.old terms.old counts.old }
-    ensures { After result types.new terms.new counts.new opens.old opens.new (met_in a_term (tok_of tok.entry) types.old terms.old counts.old opens.old) }
-{
-    match tok {
-        Token::Open => open(opens, OpenForm::TermWord),
-        Token::Number(n) => make_row(terms, &mut counts.terms, opens, leaf(0, n)),
-        Token::Name(n) => make_row(terms, &mut counts.terms, opens, leaf(1, n)),
-        _ => Turn::Stop(Fault::Misplaced),
+impl<'a, 'b> Reader<'a, 'b> {
+    // Makes a term row, which goes into the bracket around it.
+    fn add_term(&mut self, row: TermRow) -> Result<Option<u32>, Fault>
+        ensures turned { met result self.new ≡ made (row_made (length self.old.terms.now) row (rows_of self.old)) (brackets self.old.opens.now) }
+        ensures same { Same self.old self.new }
+    {
+        let place = self.made.terms;
+        if place >= self.terms.len() {
+            return Err(Fault::NoTermRow);
+        }
+        self.terms[place] = row;
+        self.made.terms = place + 1;
+        give(self.opens, Part::Term(place as u32))
     }
-}
 
-// A token where a type is wanted.
-#[tactic(auto, using(crate::proofs::Same::same_apart))]
-fn on_type(opens: &mut Stack<OpenForm>, tok: Token) -> Turn
-    ensures turned { (tn en : ℕ) (s : Tables) → Meets result s (brackets opens.new) (meet (into_tables tn en) (room opens.old) a_type (tok_of tok.entry) s (brackets opens.old)) }
-    ensures capacity { room opens.new ≡ room opens.old }
-{
-    match tok {
-        Token::Open => open(opens, OpenForm::TypeWord),
-        Token::Word(b"nat") => give_type(opens, 0),
-        _ => Turn::Stop(Fault::Misplaced),
+    // The place of the first equal type row, or the number of those made.
+    fn place_of(&self, row: TypeRow) -> usize
+        ensures { result ≡ row_place row (rows_of self.now).0 }
+    {
+        find_type(&self.types[..self.made.types], row)
     }
-}
 
-// A token where the word of a term's form is wanted.
-fn on_term_word(opens: &mut Stack<OpenForm>, tok: Token) -> Turn
-    ensures turned { (tn en : ℕ) (s : Tables) → Meets result s (brackets opens.new) (meet (into_tables tn en) (room opens.old) a_term_word (tok_of tok.entry) s (brackets opens.old)) }
-    ensures capacity { room opens.new ≡ room opens.old }
-{
-    match tok {
-        Token::Word(w) => match words::form_of(w) {
-            Some(f) => spell(opens, OpenForm::Term(f, no_parts(), no_parts())),
-            None => Turn::Stop(Fault::Misplaced),
-        },
-        _ => Turn::Stop(Fault::Misplaced),
+    // Makes a type row unless there is an equal one; it goes into the bracket around it.
+    fn add_type(&mut self, row: TypeRow) -> Result<Option<u32>, Fault>
+        ensures turned { met result self.new ≡ made_type (type_made (length self.old.types.now) row (rows_of self.old)) (brackets self.old.opens.now) }
+        ensures same { Same self.old self.new }
+    {
+        let made = self.made.types;
+        let place = self.place_of(row);
+        if place < made {
+            return give(self.opens, Part::Type(place as u32));
+        }
+        if made >= self.types.len() {
+            return Err(Fault::NoTypeRow);
+        }
+        self.types[made] = row;
+        self.made.types = made + 1;
+        give(self.opens, Part::Type(made as u32))
     }
-}
 
-// A token where the word of a type is wanted.
-fn on_type_word(opens: &mut Stack<OpenForm>, tok: Token) -> Turn
-    ensures turned { (tn en : ℕ) (s : Tables) → Meets result s (brackets opens.new) (meet (into_tables tn en) (room opens.old) a_type_word (tok_of tok.entry) s (brackets opens.old)) }
-    ensures capacity { room opens.new ≡ room opens.old }
-{
-    match tok {
-        Token::Word(w) => match words::shape_of(w) {
-            Some(k) => spell(opens, OpenForm::Type(k, no_parts())),
-            None => Turn::Stop(Fault::Misplaced),
-        },
-        _ => Turn::Stop(Fault::Misplaced),
+    // Makes the row of the bracket on top, which is whole.
+    fn close(&mut self) -> Result<Option<u32>, Fault>
+        ensures turned { met result self.new ≡ closed_in self.old }
+        ensures same { Same self.old self.new }
+    {
+        match self.opens.pop() {
+            Some(OpenForm::Type(k, p)) => self.add_type(TypeRow {
+                kind: k.kind(),
+                left: p.rows[0],
+                right: p.rows[1],
+            }),
+            Some(OpenForm::Term(f, p, q)) => self.add_term(TermRow {
+                kind: f.kind(),
+                ty: p.rows[0],
+                number: 0,
+                a: q.rows[0],
+                b: q.rows[1],
+                c: q.rows[2],
+            }),
+            _ => Err(Fault::Misplaced),
+        }
     }
-}
 
-// What a token leads to.
-pub(crate) fn turn(
-    types: &mut [TypeRow],
-    terms: &mut [TermRow],
-    counts: &mut Counts,
-    opens: &mut Stack<OpenForm>,
-    tok: Token,
-) -> Turn
-    requires { Tabled types.old terms.old counts.old }
-    ensures { After result types.new terms.new counts.new opens.old opens.new (turn_in (tok_of tok.entry) types.old terms.old counts.old opens.old) }
-{
-    match want(opens) {
-        Want::Term => on_term(types, terms, counts, opens, tok),
-        Want::Type => on_type(opens, tok),
-        Want::TermWord => on_term_word(opens, tok),
-        Want::TypeWord => on_type_word(opens, tok),
-        Want::Close => match tok {
-            Token::Close => close(types, terms, counts, opens),
-            _ => Turn::Stop(Fault::Misplaced),
-        },
+    // What a token leads to: more tokens, or the row of the rule, which is whole.
+    #[tactic(auto, using(crate::proofs::Same::same_apart))]
+    pub(crate) fn turn(&mut self, token: Token) -> Result<Option<u32>, Fault>
+        ensures turned { met result self.new ≡ turn_in (tok_of token.entry) self.old }
+        ensures same { Same self.old self.new }
+    {
+        match (want(self.opens), token) {
+            (Want::Term, Token::Open) => open(self.opens, OpenForm::TermWord),
+            (Want::Term, Token::Number(n)) => self.add_term(leaf(0, n)),
+            (Want::Term, Token::Name(n)) => self.add_term(leaf(1, n)),
+            (Want::Type, Token::Open) => open(self.opens, OpenForm::TypeWord),
+            (Want::Type, Token::Word(b"nat")) => give(self.opens, Part::Type(0)),
+            (Want::TermWord, Token::Word(w)) => {
+                let form = words::form_of(w).ok_or(Fault::Misplaced)?;
+                spell(
+                    self.opens,
+                    OpenForm::Term(form, Parts::none(), Parts::none()),
+                )
+            }
+            (Want::TypeWord, Token::Word(w)) => {
+                let shape = words::shape_of(w).ok_or(Fault::Misplaced)?;
+                spell(self.opens, OpenForm::Type(shape, Parts::none()))
+            }
+            (Want::Close, Token::Close) => self.close(),
+            _ => Err(Fault::Misplaced),
+        }
     }
 }

@@ -1,35 +1,30 @@
-use Rattle.std.proofs.Common.{◌≡◌, ℕ, ◌-◌, min, length, sym, subst, arith, length-set}
-use Rattle.rows.specs.Rows.{nat_row}
-use Rattle.theory.specs.Emit.{Tables}
-use Rattle.grammar.specs.Reader.{Outcome}
-use Rattle.text.specs.Brackets.{rows_of, Answers}
-use Rattle.text.specs.Reads.{outcome}
-use Rattle.text.proofs.Whole.{same_reading, filled_ok, filled_err}
+use Rattle.std.proofs.Common.{◌≡◌, List, length, Err, sym, ap, ◌∙◌, rules}
+use Rattle.rows.specs.declared.tables.TypeRow.{TypeRow}
+use Rattle.rows.specs.declared.tables.TermRow.{TermRow}
+use Rattle.rows.specs.Views.{view, room}
+use Rattle.theory.specs.Emit.{empty}
+use Rattle.grammar.specs.Reader.{read}
+use Rattle.grammar.specs.TableMaker.{into_tables}
+use Rattle.text.specs.Brackets.{rows_of, answered}
+use Rattle.text.proofs.Whole.{begins, filled_ok, filled_err}
 use Rattle.text.proofs.reader.fill.Goals as goal
 use Rattle.text.proofs.reader.fill.Goals.{After-run}
 
--- the outcome, by its definition
-abbrev whole : After-run → Outcome Tables ℕ
-whole c = outcome c.args.types.now c.args.terms.now c.args.rows.now c.args.text.now
-
--- what `run` answered is that outcome
-answered : (c : After-run) → Answers c.run.result (rows_of c.run.new.types c.run.new.terms c.run.new.counts) (whole c)
-answered c =
-    let ls = length-set c.args.types.now 0 nat_row in
-    let k : c.min-type_room.result - 0 ≡ min (length c.args.types.now) 1024 = omega (arith, c.min-type_room.ensures) in
-    let j : c.min-term_room.result - 0 ≡ min (length c.args.terms.now) 2048 = omega (arith, c.min-term_room.ensures) in
-    subst (Answers c.run.result (rows_of c.run.new.types c.run.new.terms c.run.new.counts))
-    (sym (same_reading c.args.types.now c.args.terms.now c.args.rows.now c.args.text.now (c.min-type_room.result - 0) (c.min-term_room.result - 0) c.new-opens.result (omega arith) (λ e. c.if-types-eq0.false (omega arith)) k j c.new-opens.ensures.empty c.new-opens.ensures.capacity))
+-- what `run` answered is the reading, by its definition
+is_read : (c : After-run) → answered c.run.result (rows_of c.run.new.self) ≡ read (into_tables (length c.args.types.now) (length c.args.terms.now)) (length c.args.opens.now) (length c.args.text.now) c.args.text.now empty
+is_read c =
     c.run.ensures.answers
+    ∙ begins c.args.types.now (length c.args.opens.now) c.args.text.now c.new-reader.result c.requires.some_types
+    c.new-reader.ensures.types c.new-reader.ensures.made (ap view c.new-reader.ensures.opens ∙ c.new-opens.ensures.empty) (ap room c.new-reader.ensures.opens ∙ c.new-opens.ensures.capacity)
+    ∙ ap (λ l. read (into_tables (length c.args.types.now) (length l)) (length c.args.opens.now) (length c.args.text.now) c.args.text.now empty) c.new-reader.ensures.terms
 
-pub returns-in-Ok : goal.returns-in-Ok
-returns-in-Ok c =
-    let at = (goal.at.returns-in-Ok c).After-run in
-    filled_ok (whole at) c.in-Ok.field-0 c.run.new.types _ c.run.new.terms _ c.run.new.counts
-    (subst (λ a. Answers a (rows_of c.run.new.types c.run.new.terms c.run.new.counts) (whole at)) c.in-Ok.is (answered at)) c.run.ensures.tabled
+pub returns : goal.returns
+returns c =
+    let ok = ap (λ a. answered a (rows_of c.run.new.self)) (sym c.in_ok-run.was) ∙ is_read (goal.at.returns c).After-run in
+    let filled = λ (ts : List TypeRow) (es : List TermRow). filled_ok c.in_ok-run.field-0 c.run.new.self _ ts es ok in
+    search (rules, filled)
 
-pub returns-in-Err : goal.returns-in-Err
-returns-in-Err c =
-    let at = (goal.at.returns-in-Err c).After-run in
-    filled_err (whole at) c.in-Err.refusal (rows_of c.run.new.types c.run.new.terms c.run.new.counts) _ _
-    (subst (λ a. Answers a (rows_of c.run.new.types c.run.new.terms c.run.new.counts) (whole at)) c.in-Err.is (answered at))
+pub returns-in_err-run : goal.returns-in_err-run
+returns-in_err-run c =
+    let same : Err c.in_err-run.field-0.0 ≡ c.from_residual.result = search rules in
+    filled_err c.from_residual.result c.in_err-run.field-0.0 (rows_of c.run.new.self) _ _ _ same (ap (λ a. answered a (rows_of c.run.new.self)) (sym c.in_err-run.was) ∙ is_read (goal.at.returns-in_err-run c).After-run)

@@ -1,36 +1,22 @@
-use Rattle.std.proofs.Common.{◌≡◌, ℕ, length, ap, ◌∙◌, arith}
-use Rattle.text.specs.Reads.{outcome, zero_type, zero_term}
-use Rattle.text.proofs.Whole.{type_count, term_count, cleared, ruled, faulted}
+use Rattle.std.proofs.Common.{length, arith, rules}
+use Rattle.text.specs.Reads.{outcome, made, zero_type, zero_term}
+use Rattle.text.proofs.Whole.{counts_of, cleared, ruled}
 use Rattle.text.proofs.reader.read.Goals as goal
 
-pub clear_rest-requires : goal.clear_rest-requires
-clear_rest-requires c =
+pub returns-clause-type_rows : goal.returns-clause-type_rows
+returns-clause-type_rows c =
     let o = outcome c.args.types.now c.args.terms.now c.args.opens.now c.args.text.now in
-    let n = ap (λ (p : ℕ × ℕ). p.0) c.made_by-made_types.ensures ∙ type_count o c.fill-answer.result c.fill-answer.ensures.answers in
-    omega (arith, c.fill-answer.ensures.types_within)
+    let n = counts_of o c.fill_front-answer.result _ c.unwrap_or_default-made.result c.fill_front-answer.ensures.answers c.unwrap_or_default-made.ensures (λ d. search rules) in
+    cleared zero_type c.fill_front-answer.new.types (made o).0 c.fill.new.self c.unwrap_or_default-made.result.types (length c.args.types.now) (c.fill.ensures.after (λ y e. search rules)) n.0 c.fill_front-answer.ensures.types_within c.fill_front-answer.ensures.types_made (omega arith)
 
-pub clear_rest-requires-2 : goal.clear_rest-requires-2
-clear_rest-requires-2 c =
+pub returns-clause-term_rows : goal.returns-clause-term_rows
+returns-clause-term_rows c =
     let o = outcome c.args.types.now c.args.terms.now c.args.opens.now c.args.text.now in
-    let n = ap (λ (p : ℕ × ℕ). p.1) c.made_by-made_types.ensures ∙ term_count o c.fill-answer.result c.fill-answer.ensures.answers in
-    omega (arith, c.fill-answer.ensures.terms_within)
+    let n = counts_of o c.fill_front-answer.result _ c.unwrap_or_default-made.result c.fill_front-answer.ensures.answers c.unwrap_or_default-made.ensures (λ d. search rules) in
+    cleared zero_term c.fill_front-answer.new.terms (made o).1 c.fill-2.new.self c.unwrap_or_default-made.result.terms (length c.args.terms.now) (c.fill-2.ensures.after (λ y e. search rules)) n.1 c.fill_front-answer.ensures.terms_within c.fill_front-answer.ensures.terms_made (omega arith)
 
-pub returns : goal.returns
-returns c =
+pub returns-clause-rule : goal.returns-clause-rule
+returns-clause-rule c =
     let o = outcome c.args.types.now c.args.terms.now c.args.opens.now c.args.text.now in
-    let filled = c.fill-answer.ensures in
-    let tn = ap (λ (p : ℕ × ℕ). p.0) c.made_by-made_types.ensures ∙ type_count o c.fill-answer.result filled.answers in
-    let en = ap (λ (p : ℕ × ℕ). p.1) c.made_by-made_types.ensures ∙ term_count o c.fill-answer.result filled.answers in
-    let t : length c.fill-answer.new.types ≡ length c.args.types.now = omega arith in
-    let u : length c.fill-answer.new.terms ≡ length c.args.terms.now = omega arith in
-    let types = cleared zero_type c.fill-answer.new.types _ c.clear_rest.new.rows _ (length c.args.types.now) c.clear_rest.ensures tn filled.types_made t in
-    let terms = cleared zero_term c.fill-answer.new.terms _ c.clear_rest-2.new.rows _ (length c.args.terms.now) c.clear_rest-2.ensures en filled.terms_made u in
-    record {
-      answers = filled.answers;
-      type_rows = types;
-      term_rows = terms;
-      rule = ruled o c.fill-answer.result (length c.args.types.now) (length c.args.terms.now) c.clear_rest.new.rows c.clear_rest-2.new.rows c.args.opens.now c.args.text.now filled.answers types terms (omega arith) (omega arith)
-          (c.reads_exactly.ensures (length c.args.types.now) (length c.args.terms.now) (length c.args.opens.now) c.args.text.now);
-      fault = faulted o c.fill-answer.result c.args.types.now c.args.terms.now c.args.opens.now c.args.text.now filled.answers
-          (c.refuses_rightly.ensures (length c.args.types.now) (length c.args.terms.now) (length c.args.opens.now) c.args.text.now);
-    }
+    ruled c.fill_front-answer.result (length c.args.types.now) (length c.args.terms.now) _ _ c.args.opens.now c.args.text.now o c.fill_front-answer.ensures.answers (returns-clause-type_rows c) (returns-clause-term_rows c) (omega (arith, c.fill_front-answer.ensures.types_within)) (omega (arith, c.fill_front-answer.ensures.terms_within))
+    (c.reads_exactly.ensures (length c.args.types.now) (length c.args.terms.now) (length c.args.opens.now) c.args.text.now)
