@@ -52,13 +52,14 @@ impl<'a, 'b> Reader<'a, 'b> {
             let start = lexer::trim(rest);
             let place = text.len() - start.len();
             let refused = |fault| Refusal { fault, place };
-            match lexer::token(start).map_err(refused)? {
-                None => return row.ok_or(refused(Fault::Misplaced)),
-                Some(_) if row.is_some() => return Err(refused(Fault::Misplaced)),
-                Some((token, after)) => {
+            match lexer::token(start) {
+                Ok(None) => return row.ok_or(refused(Fault::Misplaced)),
+                Ok(Some(_)) if row.is_some() => return Err(refused(Fault::Misplaced)),
+                Ok(Some((token, after))) => {
                     row = self.turn(token).map_err(refused)?;
                     rest = after;
                 }
+                Err(fault) => return Err(refused(fault)),
             }
         }
     }

@@ -87,11 +87,13 @@ fn give(opens: &mut Stack<OpenForm>, part: Part) -> Result<Option<u32>, Fault>
     match (opens.top(), part) {
         (None, Part::Term(y)) => Ok(Some(y)),
         (None, Part::Type(_)) => Err(Fault::Misplaced),
-        (Some(top), _) => {
-            let more = top.with(part).ok_or(Fault::Misplaced)?;
-            opens.replace_top(more);
-            Ok(None)
-        }
+        (Some(top), _) => match top.with(part) {
+            Some(more) => {
+                opens.replace_top(more);
+                Ok(None)
+            }
+            None => Err(Fault::Misplaced),
+        },
     }
 }
 
