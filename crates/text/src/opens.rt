@@ -1,5 +1,5 @@
 // What a reading works on: the tables, the brackets that are open, and what goes into them.
-ghost use Rattle.std.specs.Prelude.{◌≡◌, ◌≤◌, ℕ, length, slice_index};
+ghost use Rattle.std.specs.Prelude.{◌≡◌, ◌<◌, ◌≤◌, length, slice_index};
 
 use grammar::Fault;
 use rows::{Form, Shape, Stack, TermRow, TypeRow};
@@ -10,7 +10,7 @@ pub struct Parts {
     pub(crate) count: u8,
     pub(crate) rows: [u32; 3],
     ghost few: { count ≤ 3 },
-    ghost clean: { (i : ℕ) → count ≤ i → slice_index rows i ≡ 0 },
+    ghost clean: { (count < 1 → slice_index rows 0 ≡ 0) × (count < 2 → slice_index rows 1 ≡ 0) × (count < 3 → slice_index rows 2 ≡ 0) },
 }
 
 // An open bracket: its word is still wanted, or it has a word and holds these types and terms so far.
