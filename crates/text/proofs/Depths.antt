@@ -4,6 +4,7 @@ use mathlib.Core.List.{map-map}
 use Rattle.std.proofs.str.Laws.{order}
 use Rattle.std.proofs.lemmas.Bool.{cases_eq, eq-eqb, ne_eqb}
 use Rattle.std.proofs.lemmas.List.{length-map}
+use Rattle.rows.specs.declared.forms.Shape.TheVariants.{To, Both}
 use Rattle.rows.specs.declared.tables.TermRow.{TermRow}
 use Rattle.rows.specs.Forms.{form_at}
 use Rattle.rows.specs.Rows.{nat_row, leaf_row}
@@ -15,7 +16,6 @@ use Rattle.theory.specs.Laws.{Below, parts_of, Lawful}
 use Rattle.theory.specs.Induction.{fold_shaped, fold_built}
 use Rattle.theory.specs.Theorems.{type_at, types_of, Unfolds}
 use Rattle.grammar.specs.TermTokens.{type_depths, depth_type, term_depths, depth}
-use Rattle.text.specs.Writes.{shape_at}
 use Rattle.text.specs.Trips.{OpensEnough}
 
 -- the greatest of some numbers is at most what each of them is at most
@@ -32,9 +32,9 @@ module _ (s : Tables) (l : Lawful s) (u : Unfolds s) where
       let left = type_at s.0 r.left in
       let right = type_at s.0 r.right in
       ⊎_elim
-      (λ (z : r.kind ≡ 0). let e = ap depth_type (v.stands ∙ ap (λ t. cond t nat (shaped (shape_at r.kind) left right)) (eq-eqb r.kind 0 z)) in omega arith)
+      (λ (z : r.kind ≡ 0). let e = ap depth_type (v.stands ∙ ap (λ t. cond t nat (shaped (cond (eqb r.kind 1) To Both) left right)) (eq-eqb r.kind 0 z)) in omega arith)
       (λ (ne : r.kind ≡ 0 → ⊥).
-      let e = ap depth_type (v.stands ∙ ap (λ t. cond t nat (shaped (shape_at r.kind) left right)) (ne_eqb r.kind 0 ne)) ∙ fold_shaped type_depths (shape_at r.kind) left right in
+      let e = ap depth_type (v.stands ∙ ap (λ t. cond t nat (shaped (cond (eqb r.kind 1) To Both) left right)) (ne_eqb r.kind 0 ne)) ∙ fold_shaped type_depths (cond (eqb r.kind 1) To Both) left right in
       let b = v.earlier ne in
       let a = type_depth m r.left (omega (arith, b.0)) (omega (arith, b.0)) in
       let c = type_depth m r.right (omega (arith, b.1)) (omega (arith, b.1)) in

@@ -7,7 +7,7 @@ pub mod Fuel
 pub mod Loops
 pub mod Whole
 pub mod Runs
-pub mod Spends
+pub mod Walks
 pub mod RowTexts
 pub mod Depths
 pub mod Trips

@@ -46,7 +46,7 @@ text_back exactly once renders types terms opens y bs s t is =
 module _ (exactly : ReadsExactly 16384 1024 2048) (once : ReadsOnce) (renders : TightRenders 999999999) (s : Tables) (small : largest (rule_of s) ≤ top)
     (count : Counted s) (few_types : length s.0 ≤ 1024) (few_terms : length s.1 ≤ 2048) (old : List ℕ) where
   front_is : length (text_of s) ≤ length old → take (length (text_of s)) (sets old 0 (text_of s)) ≡ text_of s
-  front_is h = front (record { ends = omega arith; stored = refl }) h
+  front_is h = front old (text_of s) h
 
   back : (t : Bool) → fits (text_of s) old ≡ t → ReadsBack (cond t (Ok (length (text_of s))) (Err NoRoom)) s (cond t (sets old 0 (text_of s)) old)
   back true e = λ types terms opens for_types for_terms for_opens.

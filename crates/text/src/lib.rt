@@ -1,15 +1,16 @@
 // The text of a rule: the lexer, the reader and the writer.
 #![tactic(auto)]
 
-mod digits;
-mod lengths;
 mod lexer;
 mod opens;
 mod reader;
 mod refusal;
+mod sink;
+mod spelling;
 mod theorems;
 mod tokens;
 mod turns;
+mod walk;
 mod words;
 mod writer;
 
