@@ -6,7 +6,6 @@ pub mod Lexes
 pub mod Fuel
 pub mod Loops
 pub mod Whole
-pub mod Runs
 pub mod Walks
 pub mod RowTexts
 pub mod Depths

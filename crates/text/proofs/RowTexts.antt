@@ -75,11 +75,11 @@ module _ (s : Tables) (ts : List TypeRow) (p : ℕ) (o : Option Shape) (unfolds 
   pub natural : o ≡ None → side s.0 p ≡ codes " nat"
   natural none = ap (λ t. codes " " ++ t) (nat_row_text s l p inside ((unfolds s l).type p nat_row inside) (ap (λ q. shape_at (type_row q p).kind) (sym same) ∙ sym found ∙ none))
 
-  pub compound : (k : Shape) (w : List ℕ) → o ≡ Some k → w ≡ shape_word k → side s.0 p ≡ codes " (" ++ (w ++ (side s.0 (type_row ts p).left ++ (side s.0 (type_row ts p).right ++ codes ")")))
+  pub compound : (k : Shape) (w : List ℕ) → o ≡ Some k → w ≡ codes " (" ++ shape_word k → side s.0 p ≡ w ++ (side s.0 (type_row ts p).left ++ (side s.0 (type_row ts p).right ++ codes ")"))
   compound k w some word =
       let u = subst (TypeUnfolds s.0 p) (ap (λ q. type_row q p) (sym same)) ((unfolds s l).type p nat_row inside) in
       ap (λ t. codes " " ++ t) (shape_row_text s.0 p (type_row ts p) k u (sym found ∙ some))
-      ∙ ap (λ t. codes " (" ++ (t ++ (side s.0 (type_row ts p).left ++ (side s.0 (type_row ts p).right ++ codes ")")))) (sym word)
+      ∙ ap (λ t. t ++ (side s.0 (type_row ts p).left ++ (side s.0 (type_row ts p).right ++ codes ")"))) (sym word)
 
 -- ---- terms
 
@@ -155,12 +155,11 @@ module _ (s : Tables) (es : List TermRow) (p : ℕ) (h : Head) (unfolds : RowsUn
         let r = term_row es p in
         ap (λ b. cond b [] (parts_in r (parts (form_at r.kind)))) (le-ltb r.kind 2 kind.0) ∙ ap (parts_in r) (ap parts (sym kind.1) ∙ sym e)
 
-    pub bracketed_text : (w : List ℕ) (m n : ℕ) → w ≡ word f → m ≡ types f → n ≡ parts f
-        → term_text s p ≡ codes "(" ++ (w ++ (types_in s (term_row es p) m ++ parts_from s (parts_in (term_row es p) n) 0))
+    pub bracketed_text : (w : List ℕ) (m n : ℕ) → w ≡ codes "(" ++ word f → m ≡ types f → n ≡ parts f → term_text s p ≡ w ++ (types_in s (term_row es p) m ++ parts_from s (parts_in (term_row es p) n) 0)
     bracketed_text w m n a b c =
         let r = term_row es p in
         form_text s p r form
-        ∙ (λ i. bracketed ((ap word (sym kind.1) ∙ sym a) i) (map (type_text s.0) (take ((ap types (sym kind.1) ∙ sym b) i) (r.ty ∷ []))) (map (term_text s) (parts_are n c i)))
+        ∙ (λ i. (ap (λ g. codes "(" ++ word g) (sym kind.1) ∙ sym a) i ++ (types_in s r ((ap types (sym kind.1) ∙ sym b) i) ++ (spaced (map (term_text s) (parts_are n c i)) ++ codes ")")))
 
     pub type_below : types f ≡ 1 → (term_row es p).ty < length s.0
     type_below e =

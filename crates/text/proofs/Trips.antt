@@ -1,6 +1,7 @@
 -- What is written is read again as it was.
-use Rattle.std.proofs.Common.{◌≡◌, ℕ, ◌≤◌, min, Bool, true, false, cond, List, length, take, Ok, Err, sym, refl, ap, ◌∙◌, subst, arith, leb-false, leb-true}
-use lib.Seq.{sets}
+use Rattle.std.proofs.Common.{◌≡◌, ℕ, ◌+◌, ◌≤◌, min, Bool, true, false, cond, List, length, take, drop, Ok, Err, sym, refl, ap, ◌∙◌, subst, arith, leb-false, leb-true}
+use lib.Seq.{sets, sets-eq}
+use Rattle.std.proofs.lemmas.List.{take_at}
 use Rattle.rows.specs.Limits.{top}
 use Rattle.theory.specs.Syntax.{Term}
 use Rattle.theory.specs.Folds.{largest}
@@ -13,7 +14,6 @@ use Rattle.grammar.specs.Reader.{Outcome, accepted, refused_at}
 use Rattle.grammar.specs.Theorems.{outcome_within, Readable, Read, Exactly, ReadsExactly, ReadsOnce, TightRenders}
 use Rattle.text.specs.declared.refusal.WriteRefusal.TheVariants.{NoRoom}
 use Rattle.text.specs.Trips.{text_of, fits, written, stored, ReadsAs, TightReads, ReadsBack, TightText, WritesBack}
-use Rattle.text.proofs.Runs.{front}
 
 -- ---- a text of a term is read as that term
 
@@ -42,6 +42,10 @@ text_back exactly once renders types terms opens y bs s t is =
     (ap tight (read.stands ∙ same) ∙ sym t.text, read.readable.for_bytes)
 
 -- ---- the two round trips
+
+-- what is written at the front of a buffer
+front : (old bytes : List ℕ) → length bytes ≤ length old → take (length bytes) (sets old 0 bytes) ≡ bytes
+front old bytes h = ap (take (length bytes)) (sets-eq bytes old 0 (omega arith)) ∙ take_at bytes (drop (0 + length bytes) old) (length bytes) (omega arith)
 
 module _ (exactly : ReadsExactly 16384 1024 2048) (once : ReadsOnce) (renders : TightRenders 999999999) (s : Tables) (small : largest (rule_of s) ≤ top)
     (count : Counted s) (few_types : length s.0 ≤ 1024) (few_terms : length s.1 ≤ 2048) (old : List ℕ) where

@@ -1,5 +1,5 @@
 -- A text that goes into a sink piece by piece.
-use Rattle.std.proofs.Common.{◌≡◌, ℕ, ◌+◌, List, [], ◌++◌, length, Ok, Err, Result, sym, subst, arith, length-append}
+use Rattle.std.proofs.Common.{◌≡◌, ℕ, List, ◌++◌, length, Ok, Err, Result, sym, subst, arith, length-append}
 use Rattle.std.specs.Result.{IsErr}
 use Rattle.text.specs.declared.refusal.WriteRefusal.{WriteRefusal}
 use Rattle.text.specs.Sinks.{Puts, SinkLaws}

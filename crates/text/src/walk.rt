@@ -6,7 +6,7 @@ ghost use Rattle.text.specs.Writes.{type_text, term_text};
 
 use crate::refusal::WriteRefusal;
 use crate::sink::Sink;
-use crate::spelling::{shape_word, word_of};
+use crate::spelling::{form_opening, shape_opening};
 use checker::Passed;
 use itoa::Buffer;
 use rows::Head;
@@ -22,8 +22,7 @@ fn put_type<S: Sink>(sheet: &Passed, p: u32, out: &mut S) -> Result<(), WriteRef
     let Some(shape) = row.shape() else {
         return out.put(b" nat");
     };
-    out.put(b" (")?;
-    out.put(shape_word(shape))?;
+    out.put(shape_opening(shape))?;
     put_type(sheet, row.left, out)?;
     put_type(sheet, row.right, out)?;
     out.put(b")")
@@ -51,8 +50,7 @@ pub(crate) fn put_term<S: Sink>(sheet: &Passed, p: u32, out: &mut S) -> Result<(
             put_number(row.number, out)
         }
         Head::Form(form) => {
-            out.put(b"(")?;
-            out.put(word_of(form))?;
+            out.put(form_opening(form))?;
             if form.types() == 1 {
                 put_type(sheet, row.ty, out)?;
             }

@@ -1,4 +1,4 @@
-use Rattle.std.proofs.Common.{◌≡◌, ℕ, ◌-◌, List, length, Result, sym, ap, ◌∙◌, subst, arith}
+use Rattle.std.proofs.Common.{ℕ, ◌-◌, List, length, Result, sym, subst, arith}
 use Rattle.checker.specs.Sheets.{tables}
 use Rattle.text.specs.declared.refusal.WriteRefusal.{WriteRefusal}
 use Rattle.text.specs.Trips.{ReadsBack, WritesBack}
