@@ -6,7 +6,6 @@ mod opens;
 mod reader;
 mod refusal;
 mod sink;
-mod spelling;
 mod theorems;
 mod tokens;
 mod turns;

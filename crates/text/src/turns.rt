@@ -1,6 +1,6 @@
 // What a token leads to, by what the open bracket on top still wants.
 ghost use Rattle.std.specs.Prelude.{◌≡◌, ◌<◌, [], ◌∷◌, ◌++◌, length, Some};
-ghost use Rattle.rows.specs.Rows.{leaf_row, row_place};
+ghost use Rattle.rows.specs.Rows.{row_place};
 ghost use Rattle.rows.specs.Views.{room};
 ghost use Rattle.theory.specs.Emit.{Tables};
 ghost use Rattle.grammar.specs.Reader.{wanted, made, made_type, opened, replaced};
@@ -126,17 +126,6 @@ fn spell(opens: &mut Stack<OpenForm>, o: OpenForm) -> Result<Option<u32>, Fault>
     Ok(None)
 }
 
-// A row of kind 0, a number, or 1, a name.
-fn leaf(kind: u8, number: u32) -> TermRow
-    ensures { result ≡ leaf_row kind number }
-{
-    TermRow {
-        kind,
-        number,
-        ..TermRow::ZERO
-    }
-}
-
 impl<'a, 'b> Reader<'a, 'b> {
     // Makes a term row, which goes into the bracket around it.
     fn add_term(&mut self, row: TermRow) -> Result<Option<u32>, Fault>
@@ -183,19 +172,8 @@ impl<'a, 'b> Reader<'a, 'b> {
         ensures same { Same self.old self.new }
     {
         match self.opens.pop() {
-            Some(OpenForm::Type(k, p)) => self.add_type(TypeRow {
-                kind: k.kind(),
-                left: p.rows[0],
-                right: p.rows[1],
-            }),
-            Some(OpenForm::Term(f, p, q)) => self.add_term(TermRow {
-                kind: f.kind(),
-                ty: p.rows[0],
-                number: 0,
-                a: q.rows[0],
-                b: q.rows[1],
-                c: q.rows[2],
-            }),
+            Some(OpenForm::Type(k, p)) => self.add_type(TypeRow::new(k, p.rows[0], p.rows[1])),
+            Some(OpenForm::Term(f, p, q)) => self.add_term(TermRow::form(f, p.rows[0], q.rows)),
             _ => Err(Fault::Misplaced),
         }
     }
@@ -208,8 +186,8 @@ impl<'a, 'b> Reader<'a, 'b> {
     {
         match (want(self.opens), token) {
             (Want::Term, Token::Open) => open(self.opens, OpenForm::TermWord),
-            (Want::Term, Token::Number(n)) => self.add_term(leaf(0, n)),
-            (Want::Term, Token::Name(n)) => self.add_term(leaf(1, n)),
+            (Want::Term, Token::Number(n)) => self.add_term(TermRow::number(n)),
+            (Want::Term, Token::Name(n)) => self.add_term(TermRow::name(n)),
             (Want::Type, Token::Open) => open(self.opens, OpenForm::TypeWord),
             (Want::Type, Token::Word(b"nat")) => give(self.opens, Part::Type(0)),
             (Want::TermWord, Token::Word(w)) => {

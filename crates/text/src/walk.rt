@@ -6,7 +6,7 @@ ghost use Rattle.text.specs.Writes.{type_text, term_text};
 
 use crate::refusal::WriteRefusal;
 use crate::sink::Sink;
-use crate::spelling::{form_opening, shape_opening};
+use crate::words::{form_opening, shape_opening};
 use checker::Passed;
 use itoa::Buffer;
 use rows::Head;

@@ -1,8 +1,54 @@
-// The words of the forms, and their parts.
-ghost use Rattle.std.specs.Prelude.{◌≡◌};
-ghost use Rattle.grammar.specs.Words.{same, form_of, shape_of};
+// The words of forms and shapes, and the forms and shapes of words.
+ghost use Rattle.std.specs.Prelude.{◌≡◌, ◌++◌, codes};
+ghost use Rattle.grammar.specs.Words.{form_of, shape_of, word, shape_word};
 
 use rows::{Form, Shape};
+
+// The bracket and the word of a form.
+pub(crate) fn form_opening(form: Form) -> &'static [u8]
+    ensures { result.now ≡ codes "(" ++ word form }
+{
+    match form {
+        Form::Succ => b"(s",
+        Form::Ifz => b"(ifz",
+        Form::Lam => b"(lam",
+        Form::Ap => b"(ap",
+        Form::Fix => b"(fix",
+        Form::Pair => b"(pair",
+        Form::Fst => b"(fst",
+        Form::Snd => b"(snd",
+        Form::Add => b"(add",
+        Form::Sub => b"(sub",
+        Form::Mul => b"(mul",
+        Form::Get => b"(get",
+        Form::Fail => b"(fail",
+        Form::Catch => b"(catch",
+    }
+}
+
+// The bracket and the word of a shape, after a space.
+pub(crate) fn shape_opening(shape: Shape) -> &'static [u8]
+    ensures { result.now ≡ codes " (" ++ shape_word shape }
+{
+    match shape {
+        Shape::To => b" (to",
+        Shape::Both => b" (both",
+    }
+}
+
+// The word of a form.
+fn word_of(form: Form) -> &'static [u8]
+    ensures { result.now ≡ word form }
+{
+    &form_opening(form)[1..]
+}
+
+// The word of a shape.
+fn shape_word(shape: Shape) -> &'static [u8]
+    ensures { result.now ≡ shape_word shape }
+{
+    &shape_opening(shape)[2..]
+}
 
 // Every form, in the order of their kinds.
 const FORMS: [Form; 14] = [
@@ -26,7 +72,7 @@ const FORMS: [Form; 14] = [
 pub(crate) fn form_of(w: &[u8]) -> Option<Form>
     ensures { result ≡ form_of w.now }
 {
-    FORMS.iter().copied().find(|f| w == word_of(*f))
+    FORMS.iter().copied().find(|form| w == word_of(*form))
 }
 
 // The shape of a type that a word names.
@@ -36,5 +82,5 @@ pub(crate) fn shape_of(w: &[u8]) -> Option<Shape>
     [Shape::To, Shape::Both]
         .iter()
         .copied()
-        .find(|k| w == shape_word(k.kind()))
+        .find(|shape| w == shape_word(*shape))
 }

@@ -5,9 +5,7 @@ use Rattle.std.proofs.lemmas.Iterator.Consumers.{YieldsList-from_copied}
 use Rattle.std.proofs.lemmas.Iterator.Search.{find_from_yields_List}
 use Rattle.rows.specs.declared.forms.Shape.{Shape}
 use Rattle.rows.specs.declared.forms.Shape.TheVariants.{To, Both}
-use Rattle.rows.specs.Forms.{shape_kind}
 use Rattle.grammar.specs.Words.{shape_word}
-use Rattle.text.specs.Writes.{shape_at}
 use Rattle.text.proofs.Same.{spelt_find, itself}
 use Rattle.text.proofs.words.shape_of.Goals as goal
 
@@ -17,5 +15,5 @@ shapes = To ∷ Both ∷ []
 pub returns : goal.returns
 returns c =
     itself c.find.result
-    ∙ find_from_yields_List (λ k. bytes_eq c.args.w.now (shape_word (shape_at (shape_kind k)))) _ _ _ c.find.ensures.ran (YieldsList-from_copied (YieldsList-from_slice shapes (search rules))) (λ x b q k. search (rules, tests))
-    ∙ spelt_find (λ k. shape_word (shape_at (shape_kind k))) shapes c.args.w.now
+    ∙ find_from_yields_List (λ k. bytes_eq c.args.w.now (shape_word k)) _ _ _ c.find.ensures.ran (YieldsList-from_copied (YieldsList-from_slice shapes (search rules))) (λ x b q k. search (rules, tests))
+    ∙ spelt_find shape_word shapes c.args.w.now
