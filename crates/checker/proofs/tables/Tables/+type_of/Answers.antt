@@ -58,33 +58,22 @@ loop-i-preserved t c =
       ],
     )
 
-pub returns-in-Some : goal.returns-in-Some
-returns-in-Some t c =
+pub returns-in-Some-clause-value : goal.returns-in-Some-clause-value
+returns-in-Some-clause-value t c =
     let ts = c.args.self.now.types.now in
-    let es = c.args.self.now.terms.now in
-    let r = get_or es c.args.p no_row in
+    let r = get_or c.args.self.now.terms.now c.args.p no_row in
     let names = view c.args.names.now in
-    let s = c.loop-i.invariant.0 in
     let n = parts_taken r _ _ c.arity_of.ensures.value c.loop-i-test.false c.loop-i.auto.i-end in
-    record {
-      value = ap (λ o. settled c.args.p o (own_type ts r (slice_get names r.number) (get_or c.loop-i.types 0 0) (get_or c.loop-i.types 1 0) (get_or c.loop-i.types 2 0))) (sym c.in-Some.is)
-          ∙ type_parts ts es c.args.self.now.placed c.args.p c.requires.within names c.loop-i.low c.loop-i.types c.loop-i.i n c.loop-i.invariant.1;
-      entries = s.entries;
-      capacity = s.capacity;
-    }
+    ap (λ o. settled c.args.p o (own_type ts r (slice_get names r.number) (get_or c.loop-i.types 0 0) (get_or c.loop-i.types 1 0) (get_or c.loop-i.types 2 0))) (sym c.in-Some.is)
+    ∙ type_parts ts c.args.self.now.terms.now c.args.self.now.placed c.args.p c.requires.within names c.loop-i.low c.loop-i.types c.loop-i.i n c.loop-i.invariant.1
 
-pub returns-in-None : goal.returns-in-None
-returns-in-None t c =
+pub returns-in-None-clause-value : goal.returns-in-None-clause-value
+returns-in-None-clause-value t c =
     let ts = c.args.self.now.types.now in
-    let es = c.args.self.now.terms.now in
-    let r = get_or es c.args.p no_row in
+    let r = get_or c.args.self.now.terms.now c.args.p no_row in
     let names = view c.args.names.now in
-    let s = c.loop-i.invariant.0 in
     let n = parts_taken r _ _ c.arity_of.ensures.value c.loop-i-test.false c.loop-i.auto.i-end in
-    record {
-      value = c.ok_or.ensures.value ∙ ok_or_settled c.args.p c.own_type.result
-          ∙ (λ j. settled c.args.p (sym c.in-None.is j) ((c.own_type.ensures ∙ ap (λ name. own_type ts r name (get_or c.loop-i.types 0 0) (get_or c.loop-i.types 1 0) (get_or c.loop-i.types 2 0)) (c.look.ensures ∙ ap (λ l. slice_get l r.number) s.entries)) j))
-          ∙ type_parts ts es c.args.self.now.placed c.args.p c.requires.within names c.loop-i.low c.loop-i.types c.loop-i.i n c.loop-i.invariant.1;
-      entries = s.entries;
-      capacity = s.capacity;
-    }
+    let own = c.own_type.ensures ∙ ap (λ name. own_type ts r name (get_or c.loop-i.types 0 0) (get_or c.loop-i.types 1 0) (get_or c.loop-i.types 2 0)) (c.look.ensures ∙ ap (λ l. slice_get l r.number) c.loop-i.invariant.0.entries) in
+    c.ok_or.ensures.value ∙ ok_or_settled c.args.p c.own_type.result
+    ∙ (λ j. settled c.args.p (sym c.in-None.is j) (own j))
+    ∙ type_parts ts c.args.self.now.terms.now c.args.self.now.placed c.args.p c.requires.within names c.loop-i.low c.loop-i.types c.loop-i.i n c.loop-i.invariant.1
