@@ -40,7 +40,7 @@ impl Sink for Room {
     }
 }
 
-// Writes the bytes into a buffer from its front on.
+// Writes the bytes into a buffer that the caller hands over, from its front on; the place after them stands beside it.
 #[derive(Drop)]
 pub(crate) struct Front<'a> {
     pub buffer: &'a mut [u8],
