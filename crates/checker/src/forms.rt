@@ -15,8 +15,8 @@ pub(crate) fn arity_of(r: TermRow) -> usize
     }
 }
 
-// Whether it has a type.
-pub(crate) fn has_type(r: TermRow) -> bool
+// Whether it names a type of its own, as `lam` does.
+pub(crate) fn names_type(r: TermRow) -> bool
     ensures { result ≡ typed r.kind }
 {
     match r.head() {

@@ -5,7 +5,7 @@ ghost use Rattle.checker.specs.declared.refusal.Fault.TheVariants.{TableSize};
 ghost use Rattle.checker.specs.Verdicts.{misfit, sizes, at_row};
 ghost use Rattle.checker.specs.RowTests.{compound, good_type, placed, parts_placed, good_row, good_term};
 
-use crate::forms::{arity_of, has_type};
+use crate::forms::{arity_of, names_type};
 use rows::{Form, Head, MOST_TERMS, MOST_TYPES, TOP, TermRow, TypeRow, find_type};
 
 // Whether a table has no row, or too many.
@@ -74,9 +74,10 @@ fn is_good_row(n: u32, p: u32, r: TermRow) -> bool
     ensures { result ≡ good_row n p r }
 {
     let is_form = matches!(r.head(), Head::Form(_));
+    // the row is the caller's, so its kind may be any byte
     r.kind <= Form::Catch.kind()
         && is_placed(!is_form, r.number, TOP + 1)
-        && is_placed(has_type(r), r.ty, n)
+        && is_placed(names_type(r), r.ty, n)
         && has_parts_placed(p, r)
 }
 

@@ -13,7 +13,7 @@ pub(crate) fn judge(types: &[TypeRow], terms: &[TermRow], sight: &mut [u32]) -> 
     let tables = Tables::new(types, terms)?;
     let last = tables.last();
     refuse(Fault::PartUse, tables.bad_part())?;
-    refuse(Fault::TooDeep, tables.deepest(sight.len(), last, 0))?;
+    refuse(Fault::TooDeep, tables.too_deep(sight.len(), last, 0))?;
     let found = tables.type_of(&mut Stack::new(sight), last);
     refuse(Fault::Untyped, found.err())?;
     refuse(Fault::NotNat, (found != Ok(0)).then_some(last))

@@ -30,7 +30,8 @@ impl Basket {
         }
     }
 
-    // Makes this the basket of these lines, or refuses them and leaves it as it was.
+    // Makes this the basket of these lines, or refuses them and leaves it as it was. A price list is made in the same four
+    // lines, and a trait for both would be longer than they are.
     pub fn fill(&mut self, lines: &[Line]) -> Result<(), Refusal>
         ensures result { outcome result ≡ basket_outcome lines.now }
         ensures filled { is_ok result ≡ true → of_basket self.new ≡ basket_table lines.now }

@@ -1,6 +1,6 @@
 // The forms that are written in brackets, and what the kinds of rows stand for.
 ghost use Rattle.std.specs.Prelude.{◌≡◌, ◌≤◌};
-ghost use Rattle.rows.specs.Forms.{kind as kind_of, types as types_of, parts as parts_of, shape_kind, form_at, head_at, shape_at};
+ghost use Rattle.rows.specs.Forms.{kind as kind_of, types as types_of, parts as parts_of, shape_kind, form_at};
 
 // The bracketed forms of a term, in the order of their kinds from 2 on. Kind 0 is a number and 1 a name.
 #[derive(Clone, Copy, PartialEq, Eq, Debug)]
@@ -54,7 +54,8 @@ impl Form {
     }
 }
 
-// The form of a kind from 2 to 15.
+// The form of a kind. Kinds below 2 are read as the first form's and kinds above 15, which no lawful row has, as the last's:
+// it answers for every kind, since the laws of rows speak of every kind.
 pub fn form_of(kind: u8) -> Form
     ensures { result ≡ form_at kind }
 {
@@ -82,19 +83,6 @@ pub enum Head {
     Number,
     Name,
     Form(Form),
-}
-
-// What rows of a kind begin with. A kind above 15, which no lawful row has, is read as the last form's.
-impl From<u8> for Head {
-    ghost from_gives = { λ kind head. head ≡ head_at kind };
-
-    fn from(kind: u8) -> Head {
-        match kind {
-            0 => Head::Number,
-            1 => Head::Name,
-            _ => Head::Form(form_of(kind)),
-        }
-    }
 }
 
 // The bracketed forms of a type.

@@ -1,4 +1,4 @@
-// A stack of copied entries in a slice that the caller hands over.
+// A stack of copied entries in a slice that the caller hands over: the slice and a height beside it, with no heap.
 ghost use Rattle.std.specs.Prelude.{◌≤◌, length};
 
 mod calls;

@@ -1,9 +1,10 @@
-// The rows of the two tables. A field that a row's kind does not use is 0.
+// The rows of the two tables, which callers hand over: plain structs whose kinds are one byte and whose other fields have 32
+// bits. A field that a row's kind does not use is 0.
 ghost use Rattle.std.specs.Prelude.{◌≡◌, [], ◌∷◌};
 ghost use Rattle.rows.specs.Forms.{head_at, shape_at, shape_kind};
 ghost use Rattle.rows.specs.Rows.{type_row, leaf_row, form_row};
 
-use crate::forms::{Form, Head, Shape};
+use crate::forms::{Form, Head, Shape, form_of};
 
 // A type. Kind 0 is nat, 1 a function and 2 a pair, of the types at two earlier rows.
 #[derive(Clone, Copy, PartialEq, Eq, Debug)]
@@ -101,10 +102,14 @@ impl TermRow {
         }
     }
 
-    // What the term begins with.
+    // What the term begins with, by `form_of` where it is a form.
     pub fn head(self) -> Head
         ensures { result ≡ head_at self.kind }
     {
-        Head::from(self.kind)
+        match self.kind {
+            0 => Head::Number,
+            1 => Head::Name,
+            kind => Head::Form(form_of(kind)),
+        }
     }
 }

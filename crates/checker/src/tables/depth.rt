@@ -20,7 +20,7 @@ pub(crate) fn lower_of(x: Option<u32>, y: Option<u32>) -> Option<u32>
 impl<'t> Tables<'t> {
     // The lowest row of the term at row p, which is under so many binders, that is under more than the limit. It visits
     // each row of the term once, since each is a part once.
-    pub(crate) fn deepest(&self, limit: usize, p: u32, binders: u32) -> Option<u32>
+    pub(crate) fn too_deep(&self, limit: usize, p: u32, binders: u32) -> Option<u32>
         requires within { p < length self.now.terms.now }
         requires few { binders + p < 2048 }
         ensures { result ≡ deep_at limit self.now.terms.now p binders }
@@ -30,7 +30,7 @@ impl<'t> Tables<'t> {
         let mut low = None;
         for (i, part) in parts[..arity_of(r)].iter().enumerate() {
             let inside = binders + u32::from(bound_at(self.types, r, i).is_some());
-            low = lower_of(low, self.deepest(limit, *part, inside));
+            low = lower_of(low, self.too_deep(limit, *part, inside));
         }
         low.or((limit < binders as usize).then_some(p))
     }

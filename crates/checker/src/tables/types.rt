@@ -17,6 +17,7 @@ fn enter(names: &mut Stack<u32>, bound: Option<u32>)
     ensures capacity { room names.new ≡ room names.old }
 {
     if let Some(t) = bound {
+        // there is room, as the clause says
         let _ = names.push(t);
     }
 }

@@ -6,10 +6,10 @@ use Rattle.checker.specs.Depths.{deep_at}
 use Rattle.checker.specs.Shapes.{bound_at}
 use Rattle.checker.proofs.Counts.{one_small}
 use Rattle.checker.proofs.Parts.{part, opened, lowered, part_taken, parts_taken, part_below, lowered_more, or_own, deep_parts}
-use Rattle.checker.proofs.tables.Tables.+deepest.Goals as goal
+use Rattle.checker.proofs.tables.Tables.+too_deep.Goals as goal
 
-pub deepest-requires : goal.deepest-requires
-deepest-requires t c =
+pub too_deep-requires : goal.too_deep-requires
+too_deep-requires t c =
     let r = get_or c.args.self.now.terms.now c.args.p no_row in
     let h = part_taken r _ _ c.arity_of.ensures.value c.loop-i-test.true in
     let b : part r c.loop-i.i < c.args.p = part_below c.args.p r (c.args.self.now.placed c.args.p c.requires.within) c.loop-i.i h.0 in
@@ -24,7 +24,7 @@ loop-i-preserved t c =
     let h = part_taken r _ _ c.arity_of.ensures.value c.loop-i-test.true in
     let o : c.from.result ≡ opened ts r c.loop-i.i = (let byte : c.from.result ≡ cond c.is_some.result 1 0 = grind (arith, common_steps) in byte ∙ (λ j. cond (c.is_some.ensures j) 1 0) ∙ (λ j. cond (is_some (c.bound_at.ensures j)) 1 0)) in
     c.lower_of-low.ensures
-    ∙ lowered_more (λ k. deep_at c.args.limit es (part r k) (c.args.binders + opened ts r k)) c.loop-i.i _ _ c.loop-i.invariant (c.deepest.ensures ∙ (λ j. deep_at c.args.limit es (h.1 j) (c.args.binders + o j)))
+    ∙ lowered_more (λ k. deep_at c.args.limit es (part r k) (c.args.binders + opened ts r k)) c.loop-i.i _ _ c.loop-i.invariant (c.too_deep.ensures ∙ (λ j. deep_at c.args.limit es (h.1 j) (c.args.binders + o j)))
 
 pub returns : goal.returns
 returns t c =
