@@ -5,8 +5,7 @@ ghost use Rattle.engine.specs.View.{row_at};
 
 use crate::limits::Limits;
 use crate::state::Mode;
-use crate::store::Store;
-use crate::store::names::entry_or;
+use crate::store::{Store, entry_or};
 use checker::Passed;
 use rows::TermRow;
 

@@ -1,6 +1,7 @@
 // What the store holds and where the machine stands. An environment is 0 where it is empty, and k + 1 where cell k is its
-// nearest binding. Frames and modes take 12 bytes and cells 20, with no gap in the blank ones, so that a store of blanks is
-// made by clearing memory. For this the kinds of a value lie flat in them: an enum within an enum has a tag of its own.
+// nearest binding: an Option would take twice the room. Frames and modes take 12 bytes and cells 20, with no gap in the blank
+// ones, so that a store of blanks is made by clearing memory. For this the kinds of a value lie flat in them: an enum within
+// an enum has a tag of its own.
 
 #[derive(Clone, Copy)]
 pub enum Op {
@@ -97,7 +98,7 @@ impl Cell {
 
 #[derive(Clone, Copy)]
 pub enum Mode {
-    // evaluating a row that is no name
+    // evaluating a row that is no name; it is as wide as the fields of rows are, and `Small` says that it fits in 16 bits
     Eval { row: u32, env: u32 },
     // evaluating a number that a name is bound to
     Numeral(u32),

@@ -1,14 +1,14 @@
 // What a step does to the store, and the limits that may not allow it. A row and its environment are passed beside each
-// other: a struct of the two would be built at each call only to be taken apart. A step is faster where the larger acts are
-// inlined in it.
+// other: most calls make the two of a part of the row at hand and an environment at hand, and would have to name a struct.
+// A step is faster where the larger acts are inlined in it.
 ghost use Rattle.std.specs.Prelude.{◌≡◌};
 ghost use Rattle.engine.specs.Acts.{stands_at, gave, resumed, opened, bound, paired, second as seconding, halves_at};
 ghost use Rattle.engine.specs.Stores.{popped};
 
 use crate::control::Program;
 use crate::state::{Cell, Frame, Mode, Next, Value};
-use crate::store::Store;
-use crate::store::names::{enter, entry_or};
+use crate::store::names::enter;
+use crate::store::{Store, entry_or};
 
 impl Store {
     // Where the machine stands at a row in an environment.

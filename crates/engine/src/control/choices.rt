@@ -1,5 +1,5 @@
 // Which step is made, by the mode and the top frame together.
-ghost use Rattle.std.specs.Prelude.{◌≡◌, true, is_some};
+ghost use Rattle.std.specs.Prelude.{◌≡◌, true};
 ghost use Rattle.engine.specs.declared.state.Frame.TheVariants.{CalcFirst};
 ghost use Rattle.engine.specs.Stores.{top_of};
 ghost use Rattle.engine.specs.Acts.{begun, opened, evaluated, chosen};
@@ -106,21 +106,24 @@ impl Machine {
         }
     }
 
-    // One step, or none at an end or where the limits do not allow it.
-    pub(crate) fn step<C: Counter>(&mut self, program: &Program, counter: &mut C) -> Option<()>
+    // One step, or none at an end or where the limits do not allow it; says whether one was made.
+    pub(crate) fn step<C: Counter>(&mut self, program: &Program, counter: &mut C) -> bool
         requires ready { Ready program.now.limits self.old }
         requires small { Small self.old.mode }
         requires suited { suits self.old.mode (top_of self.old.store.frames) ≡ true }
-        ensures stepped { Stepped program.now (C.Counter.table counter.old) self.old self.new (is_some result) }
+        ensures stepped { Stepped program.now (C.Counter.table counter.old) self.old self.new result }
         ensures alike { C.Counter.table counter.new ≡ C.Counter.table counter.old }
     {
-        match self.choose(program, counter)? {
+        let Some(next) = self.choose(program, counter) else {
+            return false;
+        };
+        match next {
             Next::At(mode) => self.mode = mode,
             Next::Move(mode) => {
                 self.mode = mode;
                 self.moves += 1;
             }
         }
-        Some(())
+        true
     }
 }

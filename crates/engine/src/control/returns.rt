@@ -1,4 +1,5 @@
 // What is done with a value that is returned to the top frame. A step is a third faster where these are inlined in it.
+// Each function that takes the counter by `&mut` has to say that its table stays (`alike`): it could put another one there.
 ghost use Rattle.std.specs.Prelude.{◌≡◌};
 ghost use Rattle.engine.specs.Acts.{branched, applied, taken, returned};
 

@@ -46,7 +46,7 @@ impl<'t> Run<'t> {
         if self.steps == self.limits.fuel {
             return false;
         }
-        if self.machine.step(&program, counter).is_none() {
+        if !self.machine.step(&program, counter) {
             return false;
         }
         self.steps += 1;

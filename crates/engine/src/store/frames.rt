@@ -1,10 +1,9 @@
 // The stack of frames.
-ghost use Rattle.std.specs.Prelude.{◌≡◌, [], ◌∷◌, length, is_some, if◌then◌else◌, nat_lt};
-ghost use Rattle.engine.specs.Contents.{Contents};
+ghost use Rattle.std.specs.Prelude.{◌≡◌, length, is_some, if◌then◌else◌, nat_lt};
 ghost use Rattle.engine.specs.Stores.{pushed, popped, top_of, to_second, seconded};
 
-use crate::limits::{Limits, MOST_CELLS, MOST_FRAMES};
-use crate::state::{Cell, Frame, Value};
+use crate::limits::Limits;
+use crate::state::{Frame, Value};
 use crate::store::Store;
 
 // A form whose first part is open becomes that form with its second part open, where the first returned a value.
@@ -31,19 +30,7 @@ fn to_second(f: &mut Frame, v: Value)
 }
 
 impl Store {
-    // A store with nothing in use.
-    pub(crate) fn new() -> Store
-        ensures { result ≡ record { frames = []; cells = [] } }
-    {
-        Store {
-            frames: [Frame::BLANK; MOST_FRAMES as usize],
-            cells: [Cell::BLANK; MOST_CELLS as usize],
-            height: 0,
-            count: 0,
-        }
-    }
-
-    // A frame more, if there is room for it.
+    // A frame more, if there is room for it. It answers an Option, as the acts do, for `?`.
     pub(crate) fn push(&mut self, limits: &Limits, f: Frame) -> Option<()>
         ensures value { is_some result ≡ nat_lt (length self.old.frames) limits.now.frames }
         ensures after { self.new ≡ (if is_some result then pushed f self.old else self.old) }

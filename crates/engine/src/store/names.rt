@@ -1,16 +1,10 @@
 // Looking names up.
-ghost use Rattle.std.specs.Prelude.{◌≡◌, slice_index_or};
+ghost use Rattle.std.specs.Prelude.{◌≡◌};
 ghost use Rattle.engine.specs.Stores.{nearest_in, find_in, entered};
 
 use crate::state::{Cell, Closure};
+use crate::store::entry_or;
 use rows::{Head, TermRow};
-
-// The entry at a place, and a blank one beyond the table.
-pub(crate) fn entry_or<T: Copy>(table: &[T], place: u32, blank: T) -> T
-    ensures { result ≡ slice_index_or table.now place blank }
-{
-    table.get(place as usize).copied().unwrap_or(blank)
-}
 
 // The nearest binding of an environment, and the environment outside it.
 fn nearest(cells: &[Cell], env: u32) -> (Closure, u32)
