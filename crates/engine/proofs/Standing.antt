@@ -23,13 +23,12 @@ use Rattle.environments.specs.Modes as EM
 use Rattle.environments.specs.States.{blank_cell, cell_at, bound_of_cell, next_of_cell, nearest, outward, find, resolved, enter, limited, answered, left_in, right_in}
 use Rattle.engine.specs.declared.state.Closure.{Closure}
 use Rattle.engine.specs.declared.state.Closure.TheVariants as K
-use Rattle.engine.specs.declared.state.Value.{Value}
 use Rattle.engine.specs.declared.state.Value.TheVariants as V
 use Rattle.engine.specs.declared.state.Cell.{Cell}
 use Rattle.engine.specs.declared.state.Cell.TheVariants as C
 use Rattle.engine.specs.declared.state.Mode.TheVariants as W
 use Rattle.engine.specs.View.{view_cell, mode_of, value_of, row_at, type_in}
-use Rattle.engine.specs.Values.{limited_to, answered_by, value_mode, closure_mode, halves_of, bound_to}
+use Rattle.engine.specs.Values.{limited_to, answered_by, closure_mode, halves_of, bound_to}
 use Rattle.engine.specs.Stores.{no_cell, nearest_in, find_in, binding_of, resolved_by, entered}
 
 -- a closure
@@ -41,15 +40,10 @@ pub closure_stands : (s : Tables) (c : Closure) → mode_of s (closure_mode c) �
 closure_stands s (K.Number n) = refl
 closure_stands s (K.Row r e) = refl
 
-pub value_stands : (s : Tables) (v : Value) → mode_of s (value_mode v) ≡ EM.Return (value_of s v)
-value_stands s (V.Number n) = refl
-value_stands s (V.Lam r e) = refl
-value_stands s (V.Pair i) = refl
-
 pub limited_stands : (s : Tables) (n : ℕ) → mode_of s (limited_to n) ≡ limited n
 limited_stands s n = by (leb n top)
   where
-    by : (b : Bool) → mode_of s (cond b (W.Number n) W.Fail) ≡ cond b (EM.Return (EV.Number n)) EM.Fail
+    by : (b : Bool) → mode_of s (cond b (W.Return (V.Number n)) W.Fail) ≡ cond b (EM.Return (EV.Number n)) EM.Fail
     by true = refl
     by false = refl
 
@@ -68,19 +62,19 @@ map_at g (x ∷ xs) (suc i) d e h = map_at g xs i d e h
 cell_stands : (s : Tables) (cs : List Cell) (i : ℕ) → cell_at (map (view_cell s) cs) i ≡ view_cell s (get_or cs i no_cell)
 cell_stands s cs i = map_at (view_cell s) cs i no_cell blank_cell refl
 
-left_stands : (s : Tables) (x : Cell) → mode_of s (value_mode (halves_of x).0) ≡ EM.Return (left_in (view_cell s x))
-left_stands s (C.Pair p v w) = value_stands s v
+left_stands : (s : Tables) (x : Cell) → value_of s (halves_of x).0 ≡ left_in (view_cell s x)
+left_stands s (C.Pair p v w) = refl
 left_stands s _ = refl
 
-right_stands : (s : Tables) (x : Cell) → mode_of s (value_mode (halves_of x).1) ≡ EM.Return (right_in (view_cell s x))
-right_stands s (C.Pair p v w) = value_stands s w
+right_stands : (s : Tables) (x : Cell) → value_of s (halves_of x).1 ≡ right_in (view_cell s x)
+right_stands s (C.Pair p v w) = refl
 right_stands s _ = refl
 
-pub left_half : (s : Tables) (cs : List Cell) (i : ℕ) → mode_of s (value_mode (halves_of (get_or cs i no_cell)).0) ≡ EM.Return (left_in (cell_at (map (view_cell s) cs) i))
-left_half s cs i = left_stands s (get_or cs i no_cell) ∙ ap (λ (x : EC.Cell). EM.Return (left_in x)) (sym (cell_stands s cs i))
+pub left_half : (s : Tables) (cs : List Cell) (i : ℕ) → mode_of s (W.Return (halves_of (get_or cs i no_cell)).0) ≡ EM.Return (left_in (cell_at (map (view_cell s) cs) i))
+left_half s cs i = ap EM.Return (left_stands s (get_or cs i no_cell) ∙ ap left_in (sym (cell_stands s cs i)))
 
-pub right_half : (s : Tables) (cs : List Cell) (i : ℕ) → mode_of s (value_mode (halves_of (get_or cs i no_cell)).1) ≡ EM.Return (right_in (cell_at (map (view_cell s) cs) i))
-right_half s cs i = right_stands s (get_or cs i no_cell) ∙ ap (λ (x : EC.Cell). EM.Return (right_in x)) (sym (cell_stands s cs i))
+pub right_half : (s : Tables) (cs : List Cell) (i : ℕ) → mode_of s (W.Return (halves_of (get_or cs i no_cell)).1) ≡ EM.Return (right_in (cell_at (map (view_cell s) cs) i))
+right_half s cs i = ap EM.Return (right_stands s (get_or cs i no_cell) ∙ ap right_in (sym (cell_stands s cs i)))
 
 pub bound_stands : (s : Tables) (c : Closure) (x : ℕ) → view_cell s (bound_to c x) ≡ EC.Bound (closed_of c) x
 bound_stands s (K.Number n) x = refl

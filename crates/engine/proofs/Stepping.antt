@@ -141,8 +141,8 @@ module _ (p : Program) (t : Meaning) (cs : List Cell) (mv : ℕ) (few : length c
         let x = C.Pair q u w in
         let l = one_more s cs x in
         let n = length-map cs (view_cell s) in
-        making x (N.At (W.Pair (length cs))) popped (noend, a, c)
-        (λ room. went 0 1 (EM.Return (EV.Pair (length cs))) (rest_of fs) (cs ++ (x ∷ [])) (W.Pair (length cs)) mv
+        making x (N.At (W.Return (V.Pair (length cs)))) popped (noend, a, c)
+        (λ room. went 0 1 (EM.Return (EV.Pair (length cs))) (rest_of fs) (cs ++ (x ∷ [])) (W.Return (V.Pair (length cs))) mv
         (is ∙ (λ i. (0, 1, record { mode = EM.Return (EV.Pair (n i)); stack = map (view_frame s) (rest_of fs); cells = l i }))) refl (omega arith) noend (omega (arith, a, low)) room)
 
   -- ---- a row
@@ -174,7 +174,7 @@ module _ (p : Program) (t : Meaning) (cs : List Cell) (mv : ℕ) (few : length c
     evaluates = by (head_at row.kind) (node_at s r)
       where
         by : (h : Head) → node_in (nodes_of s) r ≡ node_by h (type_in s r) row → Done (W.Eval r e) fs low (evaluated_by h p row r e (with fs))
-        by H.Number is = rests _ is (W.Number row.number) refl refl refl
+        by H.Number is = rests _ is (W.Return (V.Number row.number)) refl refl refl
         by H.Name is = rests _ is (W.Eval r e) refl refl refl
         by (H.Form R.Succ) is = waits _ is F.Succ refl refl refl
         by (H.Form R.Fst) is = waits _ is F.Fst refl refl refl
@@ -187,56 +187,50 @@ module _ (p : Program) (t : Meaning) (cs : List Cell) (mv : ℕ) (few : length c
         by (H.Form R.Add) is = waits _ is (F.CalcFirst O.Add row.b e) refl refl refl
         by (H.Form R.Sub) is = waits _ is (F.CalcFirst O.Sub row.b e) refl refl refl
         by (H.Form R.Mul) is = waits _ is (F.CalcFirst O.Mul row.b e) refl refl refl
-        by (H.Form R.Lam) is = rests _ is (W.Lam r e) refl refl refl
+        by (H.Form R.Lam) is = rests _ is (W.Return (V.Lam r e)) refl refl refl
         by (H.Form R.Fail) is = rests _ is W.Fail refl refl refl
         by (H.Form R.Fix) is = binds (W.Eval r e) fs low (λ k. k) (C.Bound r e e) (D.Row r e) e row.a refl refl (steps _ is) (costs _ is)
 
   -- ---- a value at a frame
 
   module _ (k : List Frame) where
-    branches : (n r e : ℕ) (low : length (F.Ifz r e ∷ k) ≤ p.limits.frames) → Done (W.Number n) (F.Ifz r e ∷ k) low (branched p n r e (with (F.Ifz r e ∷ k)))
+    branches : (n r e : ℕ) (low : length (F.Ifz r e ∷ k) ≤ p.limits.frames) → Done (W.Return (V.Number n)) (F.Ifz r e ∷ k) low (branched p n r e (with (F.Ifz r e ∷ k)))
     branches zero r e low = resumes _ _ low (row_at s r).b e refl (λ u. refl, refl, refl)
     branches (suc n) r e low =
-        let v = W.Number (suc n) in
+        let v = W.Return (V.Number (suc n)) in
         let fs = F.Ifz r e ∷ k in
         let below : n ≡ suc n - 1 = omega arith in
         subst (λ (b : Bool). Done v fs low (cond b (resumed p (row_at s r).b e (with fs)) (bound popped p (C.Number (suc n - 1) e) (row_at s r).c (with fs)))) (sym (ne_eqb (suc n) 0 (λ (h : suc n ≡ 0). omega arith)))
         (subst (λ (j : ℕ). Done v fs low (bound popped p (C.Number j e) (row_at s r).c (with fs))) below
         (binds v fs low popped (C.Number n e) (D.Number n) e (row_at s r).c refl refl refl (λ u. refl, refl, refl)))
 
-    number_at : (n : ℕ) (g : Frame) (low : length (g ∷ k) ≤ p.limits.frames) → suits (W.Number n) (Some g) ≡ true → Done (W.Number n) (g ∷ k) low (returned p t (V.Number n) g (with (g ∷ k)))
+    number_at : (n : ℕ) (g : Frame) (low : length (g ∷ k) ≤ p.limits.frames) → suits (W.Return (V.Number n)) (Some g) ≡ true → Done (W.Return (V.Number n)) (g ∷ k) low (returned p t (V.Number n) g (with (g ∷ k)))
     number_at n F.Succ low h = gives _ _ low _ _ refl (limited_stands s (n + 1)) (λ u. refl, refl, refl)
     number_at n F.Get low h = gives _ _ low _ _ refl (answer_stands s (t n)) (λ u. refl, refl, refl)
     number_at n (F.Ifz r e) low h = branches n r e low
     number_at n (F.Apply r e) low h = clash (cc)
     number_at n (F.Catch r e) low h = gives _ _ low _ _ refl refl (λ u. refl, refl, refl)
     number_at n (F.PairFirst q e) low h = seconds _ _ low (V.Number n) _ e refl (λ u. refl, refl, refl)
-    number_at n (F.PairNumber q j) low h = pairs (W.Number n) (F.PairNumber q j ∷ k) low q (V.Number j) (V.Number n) refl (λ u. refl, refl, refl)
-    number_at n (F.PairLam q r e) low h = pairs (W.Number n) (F.PairLam q r e ∷ k) low q (V.Lam r e) (V.Number n) refl (λ u. refl, refl, refl)
-    number_at n (F.PairPair q i) low h = pairs (W.Number n) (F.PairPair q i ∷ k) low q (V.Pair i) (V.Number n) refl (λ u. refl, refl, refl)
+    number_at n (F.PairSecond q u) low h = pairs (W.Return (V.Number n)) (F.PairSecond q u ∷ k) low q u (V.Number n) refl (λ u. refl, refl, refl)
     number_at n (F.CalcFirst o r e) low h = seconds _ _ low (V.Number n) r e refl (λ u. refl, refl, refl)
     number_at n (F.CalcSecond o j) low h = gives _ _ low _ _ refl (limited_stands s (result (op_of o) j n)) (λ u. refl, refl, refl)
     number_at n _ low h = stays _ _ low _ _ refl refl (λ u. refl, refl, refl)
 
-    lam_at : (lam x : ℕ) (g : Frame) (low : length (g ∷ k) ≤ p.limits.frames) → suits (W.Lam lam x) (Some g) ≡ true → Done (W.Lam lam x) (g ∷ k) low (returned p t (V.Lam lam x) g (with (g ∷ k)))
+    lam_at : (lam x : ℕ) (g : Frame) (low : length (g ∷ k) ≤ p.limits.frames) → suits (W.Return (V.Lam lam x)) (Some g) ≡ true → Done (W.Return (V.Lam lam x)) (g ∷ k) low (returned p t (V.Lam lam x) g (with (g ∷ k)))
     lam_at lam x (F.Apply r e) low h =
-        binds (W.Lam lam x) (F.Apply r e ∷ k) low popped (bound_to (entered s.1 cs r e) x) (enter (nodes_of s) seen r e) x (row_at s lam).a (bound_stands s (entered s.1 cs r e) x ∙ ap (λ (d : Closed). EC.Bound d x) (entered_stands s cs r e)) refl refl (λ u. refl, refl, refl)
+        binds (W.Return (V.Lam lam x)) (F.Apply r e ∷ k) low popped (bound_to (entered s.1 cs r e) x) (enter (nodes_of s) seen r e) x (row_at s lam).a (bound_stands s (entered s.1 cs r e) x ∙ ap (λ (d : Closed). EC.Bound d x) (entered_stands s cs r e)) refl refl (λ u. refl, refl, refl)
     lam_at lam x (F.Catch r e) low h = gives _ _ low _ _ refl refl (λ u. refl, refl, refl)
     lam_at lam x (F.PairFirst q e) low h = seconds _ _ low (V.Lam lam x) _ e refl (λ u. refl, refl, refl)
-    lam_at lam x (F.PairNumber q j) low h = pairs (W.Lam lam x) (F.PairNumber q j ∷ k) low q (V.Number j) (V.Lam lam x) refl (λ u. refl, refl, refl)
-    lam_at lam x (F.PairLam q r e) low h = pairs (W.Lam lam x) (F.PairLam q r e ∷ k) low q (V.Lam r e) (V.Lam lam x) refl (λ u. refl, refl, refl)
-    lam_at lam x (F.PairPair q i) low h = pairs (W.Lam lam x) (F.PairPair q i ∷ k) low q (V.Pair i) (V.Lam lam x) refl (λ u. refl, refl, refl)
+    lam_at lam x (F.PairSecond q u) low h = pairs (W.Return (V.Lam lam x)) (F.PairSecond q u ∷ k) low q u (V.Lam lam x) refl (λ u. refl, refl, refl)
     lam_at lam x (F.CalcFirst o r e) low h = clash (cc)
     lam_at lam x _ low h = stays _ _ low _ _ refl refl (λ u. refl, refl, refl)
 
-    pair_at : (i : ℕ) (g : Frame) (low : length (g ∷ k) ≤ p.limits.frames) → suits (W.Pair i) (Some g) ≡ true → Done (W.Pair i) (g ∷ k) low (returned p t (V.Pair i) g (with (g ∷ k)))
+    pair_at : (i : ℕ) (g : Frame) (low : length (g ∷ k) ≤ p.limits.frames) → suits (W.Return (V.Pair i)) (Some g) ≡ true → Done (W.Return (V.Pair i)) (g ∷ k) low (returned p t (V.Pair i) g (with (g ∷ k)))
     pair_at i F.Fst low h = gives _ _ low _ _ refl (left_half s cs i) (λ u. refl, refl, refl)
     pair_at i F.Snd low h = gives _ _ low _ _ refl (right_half s cs i) (λ u. refl, refl, refl)
     pair_at i (F.Catch r e) low h = gives _ _ low _ _ refl refl (λ u. refl, refl, refl)
     pair_at i (F.PairFirst q e) low h = seconds _ _ low (V.Pair i) _ e refl (λ u. refl, refl, refl)
-    pair_at i (F.PairNumber q j) low h = pairs (W.Pair i) (F.PairNumber q j ∷ k) low q (V.Number j) (V.Pair i) refl (λ u. refl, refl, refl)
-    pair_at i (F.PairLam q r e) low h = pairs (W.Pair i) (F.PairLam q r e ∷ k) low q (V.Lam r e) (V.Pair i) refl (λ u. refl, refl, refl)
-    pair_at i (F.PairPair q j) low h = pairs (W.Pair i) (F.PairPair q j ∷ k) low q (V.Pair j) (V.Pair i) refl (λ u. refl, refl, refl)
+    pair_at i (F.PairSecond q u) low h = pairs (W.Return (V.Pair i)) (F.PairSecond q u ∷ k) low q u (V.Pair i) refl (λ u. refl, refl, refl)
     pair_at i (F.Apply r e) low h = clash (cc)
     pair_at i (F.CalcFirst o r e) low h = clash (cc)
     pair_at i _ low h = stays _ _ low _ _ refl refl (λ u. refl, refl, refl)
@@ -249,12 +243,12 @@ module _ (p : Program) (t : Meaning) (cs : List Cell) (mv : ℕ) (few : length c
   pub chooses : (v : Mode) (fs : List Frame) (low : length fs ≤ p.limits.frames) → suits v (top_of fs) ≡ true → Done v fs low (chosen p t v (with fs))
   chooses (W.Eval r e) fs low h = evaluates r e fs low
   chooses (W.Numeral n) fs low h = stays _ _ low _ _ refl refl (λ u. refl, refl, refl)
-  chooses (W.Number n) [] low h = (refl, at_number n refl refl)
-  chooses (W.Number n) (g ∷ k) low h = number_at k n g low h
-  chooses (W.Lam r e) [] low h = stays _ _ low _ _ refl refl (λ u. refl, refl, refl)
-  chooses (W.Lam r e) (g ∷ k) low h = lam_at k r e g low h
-  chooses (W.Pair i) [] low h = stays _ _ low _ _ refl refl (λ u. refl, refl, refl)
-  chooses (W.Pair i) (g ∷ k) low h = pair_at k i g low h
+  chooses (W.Return (V.Number n)) [] low h = (refl, at_number n refl refl)
+  chooses (W.Return (V.Number n)) (g ∷ k) low h = number_at k n g low h
+  chooses (W.Return (V.Lam r e)) [] low h = stays _ _ low _ _ refl refl (λ u. refl, refl, refl)
+  chooses (W.Return (V.Lam r e)) (g ∷ k) low h = lam_at k r e g low h
+  chooses (W.Return (V.Pair i)) [] low h = stays _ _ low _ _ refl refl (λ u. refl, refl, refl)
+  chooses (W.Return (V.Pair i)) (g ∷ k) low h = pair_at k i g low h
   chooses W.Fail [] low h = (refl, at_failure refl refl)
   chooses W.Fail (g ∷ k) low h = fail_at k g low
 

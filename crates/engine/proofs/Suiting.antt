@@ -6,6 +6,7 @@ use Rattle.environments.specs.Nodes.{nodes_of}
 use Rattle.environments.specs.NodeTerms.{terms_of}
 use Rattle.environments.specs.Fits.{fits}
 use Rattle.environments.specs.Laws.{Laws, Suited}
+use Rattle.engine.specs.declared.state.Value.TheVariants as V
 use Rattle.engine.specs.declared.state.Frame.{Frame}
 use Rattle.engine.specs.declared.state.Frame.TheVariants as F
 use Rattle.engine.specs.declared.state.Cell.{Cell}
@@ -29,13 +30,13 @@ module _ (laws : Laws) (s : Tables) (law : Tables.Lawful s) where
 
 module _ (s : Tables) (cs : List Cell) where
   apply_suits : (m : Mode) (r e : ℕ) (k : List Frame) → Suited (state_at s (mode_of s m) (F.Apply r e ∷ k) cs) → suits m (Some (F.Apply r e)) ≡ true
-  apply_suits (W.Number n) r e k h = let z = h.taken _ _ refl refl in clash (cc)
-  apply_suits (W.Pair i) r e k h = let z = h.taken _ _ refl refl in clash (cc)
+  apply_suits (W.Return (V.Number n)) r e k h = let z = h.taken _ _ refl refl in clash (cc)
+  apply_suits (W.Return (V.Pair i)) r e k h = let z = h.taken _ _ refl refl in clash (cc)
   apply_suits _ r e k h = refl
 
   calc_suits : (m : Mode) (g : Frame) (k : List Frame) → Suited (state_at s (mode_of s m) (g ∷ k) cs) → (o r e : _) → g ≡ F.CalcFirst o r e → suits m (Some (F.CalcFirst o r e)) ≡ true
-  calc_suits (W.Lam q x) g k h o r e is = let z = h.taken _ _ refl (ap (λ (y : Frame). Some (view_frame s y)) is) in clash (cc)
-  calc_suits (W.Pair i) g k h o r e is = let z = h.taken _ _ refl (ap (λ (y : Frame). Some (view_frame s y)) is) in clash (cc)
+  calc_suits (W.Return (V.Lam q x)) g k h o r e is = let z = h.taken _ _ refl (ap (λ (y : Frame). Some (view_frame s y)) is) in clash (cc)
+  calc_suits (W.Return (V.Pair i)) g k h o r e is = let z = h.taken _ _ refl (ap (λ (y : Frame). Some (view_frame s y)) is) in clash (cc)
   calc_suits _ g k h o r e is = refl
 
   pub top_suits : (m : Mode) (fs : List Frame) → Suited (state_at s (mode_of s m) fs cs) → suits m (top_of fs) ≡ true

@@ -23,7 +23,7 @@ use Rattle.engine.specs.declared.control.Machine.{Machine}
 use Rattle.engine.specs.declared.control.Program.{Program}
 use Rattle.engine.specs.Contents.{Contents}
 use Rattle.engine.specs.View.{row_at, op_of}
-use Rattle.engine.specs.Values.{limited_to, answered_by, value_mode, closure_mode, halves_of, bound_to}
+use Rattle.engine.specs.Values.{limited_to, answered_by, closure_mode, halves_of, bound_to}
 use Rattle.engine.specs.Stores.{no_cell, top_of, pushed, popped, seconded, allocated, entered}
 
 -- a store afterwards, and where the step leads, or nothing where none is made
@@ -59,7 +59,7 @@ bound besides p x r k = made p x (N.Move (stands_at p (allocated x k).cells r (l
 
 -- a pair is finished
 abbrev pub paired : Program → ℕ → Value → Value → Contents → Choice
-paired p pair v w k = made p (C.Pair pair v w) (N.At (M.Pair (length k.cells))) popped k
+paired p pair v w k = made p (C.Pair pair v w) (N.At (M.Return (V.Pair (length k.cells)))) popped k
 
 -- the second part of the top frame's form is entered
 abbrev pub second : Program → Value → ℕ → ℕ → Contents → Choice
@@ -69,9 +69,9 @@ second p v r e k = (seconded v k, Some (N.At (stands_at p k.cells r e)))
 
 -- what is done at row r, by what it begins with
 abbrev pub evaluated_by : Head → Program → TermRow → ℕ → ℕ → Contents → Choice
-evaluated_by H.Number p t r e k = (k, Some (N.At (M.Number t.number)))
+evaluated_by H.Number p t r e k = (k, Some (N.At (M.Return (V.Number t.number))))
 evaluated_by H.Name p t r e k = (k, Some (N.At (M.Eval r e)))
-evaluated_by (H.Form R.Lam) p t r e k = (k, Some (N.At (M.Lam r e)))
+evaluated_by (H.Form R.Lam) p t r e k = (k, Some (N.At (M.Return (V.Lam r e))))
 evaluated_by (H.Form R.Fail) p t r e k = (k, Some (N.At M.Fail))
 evaluated_by (H.Form R.Fix) p t r e k = bound (λ l. l) p (C.Bound r e e) t.a k
 evaluated_by (H.Form R.Succ) p t r e k = opened p F.Succ t.a e k
@@ -112,29 +112,24 @@ taken p t (V.Number n) (F.Ifz r e) k = branched p n r e k
 taken p t (V.Number n) (F.CalcFirst o r e) k = second p (V.Number n) r e k
 taken p t (V.Number n) (F.CalcSecond o j) k = gave (limited_to (result (op_of o) j n)) k
 taken p t (V.Lam lam x) (F.Apply r e) k = applied p lam x r e k
-taken p t (V.Pair i) F.Fst k = gave (value_mode (halves_at i k).0) k
-taken p t (V.Pair i) F.Snd k = gave (value_mode (halves_at i k).1) k
-taken p t v f k = (k, Some (N.At (value_mode v)))
+taken p t (V.Pair i) F.Fst k = gave (M.Return (halves_at i k).0) k
+taken p t (V.Pair i) F.Snd k = gave (M.Return (halves_at i k).1) k
+taken p t v f k = (k, Some (N.At (M.Return v)))
 
 abbrev pub returned : Program → Meaning → Value → Frame → Contents → Choice
-returned p t v (F.Catch r e) k = gave (value_mode v) k
+returned p t v (F.Catch r e) k = gave (M.Return v) k
 returned p t v (F.PairFirst q e) k = second p v (row_at (tables p.sheet) q).b e k
-returned p t v (F.PairNumber q n) k = paired p q (V.Number n) v k
-returned p t v (F.PairLam q r e) k = paired p q (V.Lam r e) v k
-returned p t v (F.PairPair q i) k = paired p q (V.Pair i) v k
+returned p t v (F.PairSecond q u) k = paired p q u v k
 returned p t v f k = taken p t v f k
 
 -- ---- the step
 
 abbrev pub chosen_at : Mode → Option Frame → Program → Meaning → Contents → Choice
 chosen_at (M.Eval r e) f p t k = evaluated p r e k
-chosen_at (M.Numeral n) f p t k = (k, Some (N.At (M.Number n)))
-chosen_at (M.Number n) None p t k = (k, None)
-chosen_at (M.Number n) (Some f) p t k = returned p t (V.Number n) f k
-chosen_at (M.Lam r e) None p t k = (k, Some (N.At (M.Lam r e)))
-chosen_at (M.Lam r e) (Some f) p t k = returned p t (V.Lam r e) f k
-chosen_at (M.Pair i) None p t k = (k, Some (N.At (M.Pair i)))
-chosen_at (M.Pair i) (Some f) p t k = returned p t (V.Pair i) f k
+chosen_at (M.Numeral n) f p t k = (k, Some (N.At (M.Return (V.Number n))))
+chosen_at (M.Return v) (Some f) p t k = returned p t v f k
+chosen_at (M.Return (V.Number n)) None p t k = (k, None)
+chosen_at (M.Return v) None p t k = (k, Some (N.At (M.Return v)))
 chosen_at M.Fail None p t k = (k, None)
 chosen_at M.Fail (Some (F.Catch r e)) p t k = resumed p r e k
 chosen_at M.Fail (Some f) p t k = gave M.Fail k

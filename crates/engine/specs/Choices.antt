@@ -8,6 +8,7 @@ use Rattle.environments.specs.Nodes.{nodes_of}
 use Rattle.environments.specs.Modes as EM
 use Rattle.environments.specs.States.{State, Taken, step}
 use Rattle.environments.specs.Runs.{adds, makes, ended_or}
+use Rattle.engine.specs.declared.state.Value.TheVariants as V
 use Rattle.engine.specs.declared.state.Frame.{Frame}
 use Rattle.engine.specs.declared.state.Frame.TheVariants as F
 use Rattle.engine.specs.declared.state.Cell.{Cell}
@@ -29,13 +30,13 @@ state_of s m = state_at s (mode_of s m.mode) (frames_in m.store) (cells_in m.sto
 
 -- what may be returned to an operation's first part, and to an application; in well typed states nothing else is
 abbrev pub for_calc : Mode → Bool
-for_calc (M.Lam r e) = false
-for_calc (M.Pair i) = false
+for_calc (M.Return (V.Lam r e)) = false
+for_calc (M.Return (V.Pair i)) = false
 for_calc _ = true
 
 abbrev pub for_apply : Mode → Bool
-for_apply (M.Number n) = false
-for_apply (M.Pair i) = false
+for_apply (M.Return (V.Number n)) = false
+for_apply (M.Return (V.Pair i)) = false
 for_apply _ = true
 
 abbrev pub suits : Mode → Option Frame → Bool
@@ -73,7 +74,7 @@ pub record Went (p : Program) (t : Meaning) (m m' : Machine) : Type 0 where
 
 -- why no step is made
 pub data Blocked (p : Program) (m : Machine) : Type 0 where
-  at_number : (n : ℕ) → m.mode ≡ M.Number n → frames_in m.store ≡ [] → Blocked p m
+  at_number : (n : ℕ) → m.mode ≡ M.Return (V.Number n) → frames_in m.store ≡ [] → Blocked p m
   at_failure : m.mode ≡ M.Fail → frames_in m.store ≡ [] → Blocked p m
   too_tall : p.limits.frames < length (frames_in m.store) + adds_of p m → Blocked p m
   too_full : p.limits.cells < length (cells_in m.store) + makes_of p m → Blocked p m

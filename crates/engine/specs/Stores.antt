@@ -42,9 +42,7 @@ no_cell = C.Blank 0 0 0 0 0 0
 
 -- a frame whose first part is open, with the value that the part returned: the second part is open now
 abbrev pub to_second : Frame → Value → Frame
-to_second (F.PairFirst p e) (V.Number n) = F.PairNumber p n
-to_second (F.PairFirst p e) (V.Lam r x) = F.PairLam p r x
-to_second (F.PairFirst p e) (V.Pair i) = F.PairPair p i
+to_second (F.PairFirst p e) v = F.PairSecond p v
 to_second (F.CalcFirst o r e) (V.Number n) = F.CalcSecond o n
 to_second f v = f
 

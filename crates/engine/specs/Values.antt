@@ -12,18 +12,12 @@ use Rattle.engine.specs.declared.state.Mode.TheVariants as M
 
 -- a number as an amount, or a failure above top
 abbrev pub limited_to : ℕ → Mode
-limited_to n = cond (nat_le n top) (M.Number n) M.Fail
+limited_to n = cond (nat_le n top) (M.Return (V.Number n)) M.Fail
 
 -- an answer, or a failure where there is none
 abbrev pub answered_by : Option ℕ → Mode
-answered_by (Some n) = M.Number n
+answered_by (Some n) = M.Return (V.Number n)
 answered_by None = M.Fail
-
--- a value returned
-abbrev pub value_mode : Value → Mode
-value_mode (V.Number n) = M.Number n
-value_mode (V.Lam r e) = M.Lam r e
-value_mode (V.Pair i) = M.Pair i
 
 -- a closure evaluated
 abbrev pub closure_mode : Closure → Mode

@@ -54,9 +54,7 @@ view_frame s (F.Ifz r e) = EF.Ifz (row_at s r).b (row_at s r).c e
 view_frame s (F.Apply r e) = EF.Apply r e
 view_frame s (F.Catch r e) = EF.Catch r e
 view_frame s (F.PairFirst p e) = EF.First (pair (type_in s p)) (row_at s p).b e
-view_frame s (F.PairNumber p n) = EF.Second (pair (type_in s p)) (EV.Number n)
-view_frame s (F.PairLam p r e) = EF.Second (pair (type_in s p)) (lam_of s r e)
-view_frame s (F.PairPair p i) = EF.Second (pair (type_in s p)) (EV.Pair i)
+view_frame s (F.PairSecond p v) = EF.Second (pair (type_in s p)) (value_of s v)
 view_frame s (F.CalcFirst o r e) = EF.First (calc (op_of o)) r e
 view_frame s (F.CalcSecond o n) = EF.Second (calc (op_of o)) (EV.Number n)
 
@@ -69,7 +67,5 @@ view_cell s (C.Pair p v w) = EC.Pair (type_in s p) (value_of s v) (value_of s w)
 abbrev pub mode_of : Tables → Mode → EM.Mode
 mode_of s (M.Eval r e) = EM.Eval (D.Row r e)
 mode_of s (M.Numeral n) = EM.Eval (D.Number n)
-mode_of s (M.Number n) = EM.Return (EV.Number n)
-mode_of s (M.Lam r e) = EM.Return (lam_of s r e)
-mode_of s (M.Pair i) = EM.Return (EV.Pair i)
+mode_of s (M.Return v) = EM.Return (value_of s v)
 mode_of s M.Fail = EM.Fail

@@ -1,7 +1,6 @@
 // What the store holds and where the machine stands. An environment is 0 where it is empty, and k + 1 where cell k is its
 // nearest binding: an Option would take twice the room. Frames and modes take 12 bytes and cells 20, with no gap in the blank
-// ones, so that a store of blanks is made by clearing memory. For this the kinds of a value lie flat in them: an enum within
-// an enum has a tag of its own.
+// ones, so that a store of blanks is made by clearing memory.
 
 #[derive(Clone, Copy)]
 pub enum Op {
@@ -10,7 +9,7 @@ pub enum Op {
     Mul,
 }
 
-// A value inside a pair.
+// A value: of a pair, of a frame that waits for the pair's other half, or returned.
 #[derive(Clone, Copy)]
 pub enum Value {
     Number(u32),
@@ -40,9 +39,7 @@ pub enum Frame {
     Apply { row: u32, env: u32 },
     Catch { row: u32, env: u32 },
     PairFirst { pair: u16, env: u32 },
-    PairNumber { pair: u16, number: u32 },
-    PairLam { pair: u16, row: u16, env: u32 },
-    PairPair { pair: u16, cell: u32 },
+    PairSecond { pair: u16, left: Value },
     CalcFirst { op: Op, row: u32, env: u32 },
     CalcSecond { op: Op, left: u32 },
 }
@@ -102,10 +99,7 @@ pub enum Mode {
     Eval { row: u32, env: u32 },
     // evaluating a number that a name is bound to
     Numeral(u32),
-    // returning a value
-    Number(u32),
-    Lam { row: u16, env: u32 },
-    Pair(u32),
+    Return(Value),
     Fail,
 }
 

@@ -80,7 +80,7 @@ impl Store {
     {
         let place = self.alloc(&program.limits, Cell::Pair { pair, left, right })?;
         self.pop();
-        Some(Next::At(Mode::Pair(place)))
+        Some(Next::At(Mode::Return(Value::Pair(place))))
     }
 
     // The top frame's first part is done with, and its second is entered.

@@ -20,10 +20,10 @@ impl Store {
         let place = row as u32;
         let term = program.row(place);
         match term.head() {
-            Head::Number => Some(Next::At(Mode::Number(term.number))),
+            Head::Number => Some(Next::At(Mode::Return(Value::Number(term.number)))),
             // It was looked up where it was entered.
             Head::Name => Some(Next::At(Mode::Eval { row: place, env })),
-            Head::Form(Form::Lam) => Some(Next::At(Mode::Lam { row, env })),
+            Head::Form(Form::Lam) => Some(Next::At(Mode::Return(Value::Lam { row, env }))),
             Head::Form(Form::Fail) => Some(Next::At(Mode::Fail)),
             Head::Form(Form::Fix) => {
                 let own = Closure::Row { row: place, env };
@@ -86,22 +86,13 @@ impl Machine {
     {
         match (self.mode, self.store.top()) {
             (Mode::Eval { row, env }, _) => self.store.eval(program, row as u16, env),
-            (Mode::Numeral(n), _) => Some(Next::At(Mode::Number(n))),
-            (Mode::Number(n), Some(f)) => {
-                self.store.returned(program, Value::Number(n), f, counter)
-            }
-            (Mode::Lam { row, env }, Some(f)) => {
-                self.store
-                    .returned(program, Value::Lam { row, env }, f, counter)
-            }
-            (Mode::Pair(cell), Some(f)) => {
-                self.store.returned(program, Value::Pair(cell), f, counter)
-            }
+            (Mode::Numeral(n), _) => Some(Next::At(Mode::Return(Value::Number(n)))),
+            (Mode::Return(v), Some(f)) => self.store.returned(program, v, f, counter),
             (Mode::Fail, Some(Frame::Catch { row, env })) => {
                 Some(self.store.resume(program, row, env))
             }
             (Mode::Fail, Some(_)) => Some(self.store.give(Mode::Fail)),
-            (Mode::Number(_) | Mode::Fail, None) => None,
+            (Mode::Return(Value::Number(_)) | Mode::Fail, None) => None,
             (mode, None) => Some(Next::At(mode)),
         }
     }

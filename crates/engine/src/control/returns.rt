@@ -63,9 +63,9 @@ impl Store {
                 },
                 Frame::Apply { row, env },
             ) => { self.apply(program, lam, outer, row, env) }
-            (Value::Pair(cell), Frame::Fst) => Some(self.give(Mode::from(self.halves(cell).0))),
-            (Value::Pair(cell), Frame::Snd) => Some(self.give(Mode::from(self.halves(cell).1))),
-            _ => Some(Next::At(Mode::from(v))),
+            (Value::Pair(cell), Frame::Fst) => Some(self.give(Mode::Return(self.halves(cell).0))),
+            (Value::Pair(cell), Frame::Snd) => Some(self.give(Mode::Return(self.halves(cell).1))),
+            _ => Some(Next::At(Mode::Return(v))),
         }
     }
 
@@ -82,17 +82,11 @@ impl Store {
         ensures alike { C.Counter.table counter.new ≡ C.Counter.table counter.old }
     {
         match f {
-            Frame::Catch { .. } => Some(self.give(Mode::from(v))),
+            Frame::Catch { .. } => Some(self.give(Mode::Return(v))),
             Frame::PairFirst { pair, env } => {
                 Some(self.second(program, v, program.row(pair as u32).b, env))
             }
-            Frame::PairNumber { pair, number } => {
-                self.pair(program, pair, Value::Number(number), v)
-            }
-            Frame::PairLam { pair, row, env } => {
-                self.pair(program, pair, Value::Lam { row, env }, v)
-            }
-            Frame::PairPair { pair, cell } => self.pair(program, pair, Value::Pair(cell), v),
+            Frame::PairSecond { pair, left } => self.pair(program, pair, left, v),
             _ => self.taken(program, v, f, counter),
         }
     }

@@ -2,7 +2,7 @@
 ghost use Rattle.std.specs.Prelude.{◌≡◌};
 ghost use Rattle.machine.specs.Steps.{result as resulting};
 ghost use Rattle.engine.specs.View.{op_of};
-ghost use Rattle.engine.specs.Values.{limited_to, answered_by, value_mode, closure_mode, halves_of, bound_to};
+ghost use Rattle.engine.specs.Values.{limited_to, answered_by, closure_mode, halves_of, bound_to};
 
 use crate::state::{Cell, Closure, Mode, Op, Value};
 use rows::TOP;
@@ -12,7 +12,7 @@ pub(crate) fn limited(n: u64) -> Mode
     ensures { result ≡ limited_to n }
 {
     if n <= TOP as u64 {
-        Mode::Number(n as u32)
+        Mode::Return(Value::Number(n as u32))
     } else {
         Mode::Fail
     }
@@ -33,20 +33,7 @@ impl From<Option<u32>> for Mode {
     ghost from_gives = { λ answer mode. mode ≡ answered_by answer };
 
     fn from(answer: Option<u32>) -> Mode {
-        answer.map_or(Mode::Fail, Mode::Number)
-    }
-}
-
-// A value is returned.
-impl From<Value> for Mode {
-    ghost from_gives = { λ v mode. mode ≡ value_mode v };
-
-    fn from(v: Value) -> Mode {
-        match v {
-            Value::Number(n) => Mode::Number(n),
-            Value::Lam { row, env } => Mode::Lam { row, env },
-            Value::Pair(cell) => Mode::Pair(cell),
-        }
+        answer.map_or(Mode::Fail, |n| Mode::Return(Value::Number(n)))
     }
 }
 

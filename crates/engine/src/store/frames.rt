@@ -11,20 +11,8 @@ fn to_second(f: &mut Frame, v: Value)
     ensures { f.new ≡ to_second f.old v }
 {
     *f = match (*f, v) {
-        (Frame::PairFirst { pair, env: _ }, Value::Number(number)) => Frame::PairNumber {
-            pair,
-            number,
-        },
-        (Frame::PairFirst { pair, env: _ }, Value::Lam { row, env }) => Frame::PairLam {
-            pair,
-            row,
-            env,
-        },
-        (Frame::PairFirst { pair, env: _ }, Value::Pair(cell)) => Frame::PairPair { pair, cell },
-        (Frame::CalcFirst { op, row: _, env: _ }, Value::Number(left)) => Frame::CalcSecond {
-            op,
-            left,
-        },
+        (Frame::PairFirst { pair, .. }, left) => Frame::PairSecond { pair, left },
+        (Frame::CalcFirst { op, .. }, Value::Number(left)) => Frame::CalcSecond { op, left },
         (same, _) => same,
     };
 }
