@@ -1,6 +1,6 @@
 // What a step does to the store, and the limits that may not allow it. A row and its environment are passed beside each
-// other: most calls make the two of a part of the row at hand and an environment at hand, and would have to name a struct.
-// A step is faster where the larger acts are inlined in it.
+// other: most pairs of them are made in `eval`, of a part of its row and its own environment, and each would have to name a
+// struct. A step is faster where the larger acts are inlined in it.
 ghost use Rattle.std.specs.Prelude.{◌≡◌};
 ghost use Rattle.engine.specs.Acts.{stands_at, gave, resumed, opened, bound, paired, second as seconding, halves_at};
 ghost use Rattle.engine.specs.Stores.{popped};
