@@ -1,4 +1,6 @@
 // The tests, by counter, and the lists that they are made of.
+ghost use Rattle.std.specs.Prelude.{◌≤◌};
+
 mod baskets;
 mod makers;
 mod price_lists;
@@ -7,7 +9,7 @@ mod splits;
 mod tills;
 
 use counters::{Line, PriceRow};
-use rows::TOP;
+use std::array;
 
 fn line(article: u32, quantity: u32) -> Line {
     Line { article, quantity }
@@ -17,11 +19,9 @@ fn row(article: u32, price: u32) -> PriceRow {
     PriceRow { article, price }
 }
 
-// Rows of the articles from 0 on, each at a price that is its number.
-fn rows_of<const N: usize>() -> [PriceRow; N] {
-    let mut rows = [row(0, 0); N];
-    for (r, article) in rows.iter_mut().zip(0..TOP) {
-        *r = row(article, article);
-    }
-    rows
+// Rows of the first N of the 10,000 articles, each at a price that is its number.
+fn rows_of<const N: usize>() -> [PriceRow; N]
+    requires { N ≤ 10000 }
+{
+    array::from_fn(|article| row(article as u32, article as u32))
 }
