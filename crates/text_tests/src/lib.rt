@@ -33,45 +33,32 @@ const TERM: TermRow = TermRow {
     c: 12,
 };
 
-// What a text is read as with so many rows handed over, at most as many as there are here, and how many rows of both
-// tables are not zero then.
-fn reading(
-    rule: &[u8],
-    types: usize,
-    terms: usize,
-    opens: usize,
-) -> (Result<Counts, Refusal>, (usize, usize)) {
-    let mut type_rows = [TYPE; TYPES];
-    let mut term_rows = [TERM; TERMS];
-    let mut open_rows = [OpenForm::TermWord; OPENS];
-    let answer = text::read(
-        rule,
-        &mut type_rows[..types.min(TYPES)],
-        &mut term_rows[..terms.min(TERMS)],
-        &mut open_rows[..opens.min(OPENS)],
-    );
-    let left = (
-        others(&type_rows, TypeRow::ZERO),
-        others(&term_rows, TermRow::ZERO),
-    );
-    (answer, left)
-}
-
+// What a text is read as with so many rows handed over, at most as many as there are here.
 pub(crate) fn read_with(
     rule: &[u8],
     types: usize,
     terms: usize,
     opens: usize,
 ) -> Result<Counts, Refusal> {
-    reading(rule, types, terms, opens).0
+    text::read(
+        rule,
+        &mut [TYPE; TYPES][..types.min(TYPES)],
+        &mut [TERM; TERMS][..terms.min(TERMS)],
+        &mut [OpenForm::TermWord; OPENS][..opens.min(OPENS)],
+    )
 }
 
 pub(crate) fn read_all(rule: &[u8]) -> Result<Counts, Refusal> {
     read_with(rule, TYPES, TERMS, OPENS)
 }
 
+// How many rows of both tables are not zero after a reading or a refusal.
 pub(crate) fn rows_left(rule: &[u8]) -> (usize, usize) {
-    reading(rule, TYPES, TERMS, OPENS).1
+    let mut types = [TYPE; TYPES];
+    let mut terms = [TERM; TERMS];
+    let mut opens = [OpenForm::TermWord; OPENS];
+    let _ = text::read(rule, &mut types, &mut terms, &mut opens);
+    (others(&types, TypeRow::ZERO), others(&terms, TermRow::ZERO))
 }
 
 // How many rows differ from one.
@@ -79,15 +66,12 @@ fn others<R: PartialEq + Copy>(rows: &[R], row: R) -> usize {
     rows.iter().filter(|other| **other != row).count()
 }
 
-// A text of 16,385 bytes: spaces, with `front` at its front and `last` for the last of its first `long` bytes.
-pub(crate) fn spaced(front: &[u8], last: u8, long: usize) -> [u8; 16_385]
-    requires front { length front.now ≤ 16385 }
-    requires long { long ≤ 16385 }
+// A text of 16,385 bytes: spaces, with `front` at its front and `last` for its last byte but one.
+pub(crate) fn spaced(front: &[u8], last: u8) -> [u8; 16_385]
+    requires { length front.now ≤ 16385 }
 {
     let mut bytes = [b' '; 16_385];
     bytes[..front.len()].copy_from_slice(front);
-    if long > 0 {
-        bytes[long - 1] = last;
-    }
+    bytes[16_383] = last;
     bytes
 }

@@ -161,53 +161,45 @@ fn first_fault_first(rt: HostRuntime) {
 #[test]
 fn longest(rt: HostRuntime) {
     assert_eq!(rt;
-        read_all(&spaced(b"7", b' ', 0)),
+        read_all(&spaced(b"7", b' ')),
         refused(Fault::TooLong, 16_384)
     );
     assert_eq!(rt;
-        read_with(&spaced(b"$", b' ', 0), 0, 0, 0),
+        read_with(&spaced(b"$", b' '), 0, 0, 0),
         refused(Fault::TooLong, 16_384)
     );
-    assert_eq!(rt; read_all(&spaced(b"7", b' ', 0)[0..16_384]), made(1, 1));
+    assert_eq!(rt; read_all(&spaced(b"7", b' ')[0..16_384]), made(1, 1));
     assert_eq!(rt;
-        read_all(&spaced(b"(s", b' ', 0)[0..16_384]),
+        read_all(&spaced(b"(s", b' ')[0..16_384]),
         refused(Fault::Misplaced, 16_384)
     );
-    assert_eq!(rt;
-        read_all(&spaced(b"(s 1", b')', 16_384)[0..16_384]),
-        made(1, 2)
-    );
+    assert_eq!(rt; read_all(&spaced(b"(s 1", b')')[0..16_384]), made(1, 2));
 }
 
 #[test]
 fn last_places(rt: HostRuntime) {
     assert_eq!(rt;
-        read_all(&spaced(b"7", b'$', 16_384)[0..16_384]),
+        read_all(&spaced(b"7", b'$')[0..16_384]),
         refused(Fault::BadByte, 16_383)
     );
     assert_eq!(rt;
-        read_all(&spaced(b"7", b'#', 16_384)[0..16_384]),
+        read_all(&spaced(b"7", b'#')[0..16_384]),
         refused(Fault::BadNumber, 16_383)
     );
     assert_eq!(rt;
-        read_with(&spaced(b"(s", b'(', 16_384)[0..16_384], 1, 0, 1),
+        read_with(&spaced(b"(s", b'(')[0..16_384], 1, 0, 1),
         refused(Fault::TooDeep, 16_383)
     );
     assert_eq!(rt;
-        read_with(
-            &spaced(b"(fix(to nat nat", b')', 16_384)[0..16_384],
-            1,
-            0,
-            2,
-        ),
+        read_with(&spaced(b"(fix(to nat nat", b')')[0..16_384], 1, 0, 2),
         refused(Fault::NoTypeRow, 16_383)
     );
     assert_eq!(rt;
-        read_with(&spaced(b"(s", b'7', 16_384)[0..16_384], 1, 0, 1),
+        read_with(&spaced(b"(s", b'7')[0..16_384], 1, 0, 1),
         refused(Fault::NoTermRow, 16_383)
     );
     assert_eq!(rt;
-        read_all(&spaced(b" ", b' ', 0)[0..16_384]),
+        read_all(&spaced(b" ", b' ')[0..16_384]),
         refused(Fault::Misplaced, 16_384)
     );
 }
