@@ -1,10 +1,10 @@
 // Tables with what the checker says of them.
 #![tactic(auto)]
 
-use checker::{Fault, Passed, Refusal, check};
+use checker::{Fault, Passed, check};
+use listing::{Refusal, Tables};
 use rows::{Form, MOST_TERMS, MOST_TYPES, Shape, TermRow, TypeRow};
 use std::array;
-use text::OpenForm;
 
 #[cfg(test)]
 mod tests;
@@ -26,43 +26,28 @@ pub(crate) fn chain_of_terms(first: TermRow, form: Form) -> [TermRow; MOST_TERMS
 }
 
 pub(crate) fn refused(fault: Fault, row: u32) -> Result<(), Refusal> {
-    Err(Refusal { fault, row })
+    Err(Refusal::Checking(checker::Refusal { fault, row }))
 }
 
 // What the checker says of two tables, with so many sight rows, at most as many as there may be terms.
-pub(crate) fn judged<'t>(
-    types: &'t [TypeRow],
-    terms: &'t [TermRow],
-    sight: usize,
-) -> Result<(), Refusal> {
-    let mut rows = [7u32; MOST_TERMS];
-    let n = sight.min(MOST_TERMS);
+pub(crate) fn judged(types: &[TypeRow], terms: &[TermRow], sight: usize) -> Result<(), Refusal> {
+    let mut rows = [7; MOST_TERMS];
     let mut place = Passed::builtin();
-    check(types, terms, &mut rows[..n], &mut place)
+    check(types, terms, &mut rows[..sight.min(MOST_TERMS)], &mut place)?;
+    Ok(())
 }
 
-// What it says of the tables that a text is read into. A text that is not read is no sheet at all.
+// What it says of the tables that a text is read into.
 pub(crate) fn judged_text(rule: &[u8], sight: usize) -> Result<(), Refusal> {
-    let mut types = [TypeRow::ZERO; MOST_TYPES];
-    let mut terms = [TermRow::ZERO; MOST_TERMS];
-    let mut opens = [OpenForm::TermWord; 64];
-    match text::read(rule, &mut types, &mut terms, &mut opens) {
-        Ok(counts) => {
-            let t = counts.types.min(MOST_TYPES);
-            let e = counts.terms.min(MOST_TERMS);
-            judged(&types[..t], &terms[..e], sight)
-        }
-        Err(_) => refused(Fault::TableSize, 9_999),
-    }
+    let mut tables = Tables::ZERO;
+    let mut rows = [7; MOST_TERMS];
+    tables.read(rule, &mut rows[..sight.min(MOST_TERMS)])?;
+    Ok(())
 }
 
 // How many rows the place holds after a check with a sight row: those of the sheet that passed last.
-pub(crate) fn rows_held<'t>(
-    types: &'t [TypeRow],
-    terms: &'t [TermRow],
-    then: &'t [TermRow],
-) -> (usize, usize) {
-    let mut rows = [0u32; 1];
+pub(crate) fn rows_held(types: &[TypeRow], terms: &[TermRow], then: &[TermRow]) -> (usize, usize) {
+    let mut rows = [0];
     let mut place = Passed::builtin();
     let _ = check(types, terms, &mut rows, &mut place);
     let _ = check(types, then, &mut rows, &mut place);

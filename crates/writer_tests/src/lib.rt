@@ -3,6 +3,7 @@
 
 use checker::{Passed, Refusal, check};
 use rows::{Form, MOST_TERMS, MOST_TYPES, Shape, TermRow, TypeRow};
+use std::array;
 
 #[cfg(test)]
 mod tests;
@@ -26,21 +27,20 @@ fn succ(part: u32) -> TermRow {
 // As many types as there may be, each a function from the one before it to the same, but for the last, which is one from
 // that to nat: the text of row n is twice as long as that of row n - 1.
 pub(crate) fn doubling_types() -> [TypeRow; MOST_TYPES] {
-    let mut types = [TypeRow::ZERO; MOST_TYPES];
-    for (before, row) in (0..).zip(types[1..].iter_mut()) {
-        *row = TypeRow::new(Shape::To, before, before);
-    }
+    let mut types = array::from_fn(|p| match p.checked_sub(1) {
+        None => TypeRow::ZERO,
+        Some(before) => TypeRow::new(Shape::To, before as u32, before as u32),
+    });
     types[MOST_TYPES - 1].right = 0;
     types
 }
 
 // As many terms as there may be: a number in so many s.
 pub(crate) fn nested_terms() -> [TermRow; MOST_TERMS] {
-    let mut terms = [TermRow::number(0); MOST_TERMS];
-    for (before, row) in (0..).zip(terms[1..].iter_mut()) {
-        *row = succ(before);
-    }
-    terms
+    array::from_fn(|p| match p.checked_sub(1) {
+        None => TermRow::number(0),
+        Some(before) => succ(before as u32),
+    })
 }
 
 // How many rows the table below has: a number, five times s, and 909 times catch with a number.
@@ -48,15 +48,10 @@ const LONG_ROWS: usize = 1_824;
 
 // A rule of 16,382 bytes and as many as its first number has digits: (catch (catch ... (s (s N)) ... 999999999) 999999999).
 pub(crate) fn long_terms(first: u32) -> [TermRow; LONG_ROWS] {
-    let mut terms = [TermRow::number(first); LONG_ROWS];
-    for (before, row) in (0..5).zip(terms[1..].iter_mut()) {
-        *row = succ(before);
-    }
-    let lasts = (5..).step_by(2);
-    let numbers = (6..).step_by(2);
-    for ((last, number), pair) in lasts.zip(numbers).zip(terms[6..].chunks_exact_mut(2)) {
-        pair[0] = TermRow::number(999_999_999);
-        pair[1] = TermRow::form(Form::Catch, 0, [last, number, 0]);
-    }
-    terms
+    array::from_fn(|p| match p {
+        0 => TermRow::number(first),
+        1..=5 => succ(p as u32 - 1),
+        _ if p % 2 == 0 => TermRow::number(999_999_999),
+        _ => TermRow::form(Form::Catch, 0, [p as u32 - 2, p as u32 - 1, 0]),
+    })
 }

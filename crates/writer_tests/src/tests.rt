@@ -1,23 +1,27 @@
 // The tests. A buffer holds dots before, so that what stays of them shows.
 use crate::{doubling_types, long_terms, nested_terms, sheet_of};
 use checker::Passed;
-use rows::{Form, MOST_TERMS, MOST_TYPES, Shape, TermRow, TypeRow};
+use listing::Tables;
+use rows::{Form, MOST_TERMS, Shape, TermRow, TypeRow};
 use std::process::Abort;
 use std::test::Fail;
-use text::{OpenForm, WriteRefusal};
+use text::WriteRefusal;
 
 // Two bytes more than the longest text.
 const BYTES: usize = 16_386;
 
-// Writes into so many bytes of a buffer, and answers the length, or the number of the refusal.
-fn write(sheet: &Passed, buffer: &mut [u8; BYTES], room: usize) -> Result<usize, u8> {
-    text::write(sheet, &mut buffer[..room.min(BYTES)]).map_err(WriteRefusal::number)
+// The length of what is written, or the number of the refusal.
+fn write(sheet: &Passed, buffer: &mut [u8]) -> Result<usize, u8> {
+    text::write(sheet, buffer).map_err(WriteRefusal::number)
 }
 
 // A sheet is written as this text, and the dots behind it stay.
 fn writes(rt: &impl Abort, sheet: &Passed, room: usize, text: &[u8]) {
     let mut buffer = [b'.'; BYTES];
-    assert_eq!(rt; write(sheet, &mut buffer, room), Ok(text.len()));
+    assert_eq!(rt;
+        write(sheet, &mut buffer[..room.min(BYTES)]),
+        Ok(text.len())
+    );
     assert!(rt; buffer.starts_with(text));
     assert!(rt; buffer.iter().skip(text.len()).all(|b| *b == b'.'));
 }
@@ -25,24 +29,20 @@ fn writes(rt: &impl Abort, sheet: &Passed, room: usize, text: &[u8]) {
 // A sheet is refused, and all the dots stay.
 fn refuses(rt: &impl Abort, sheet: &Passed, room: usize) {
     let mut buffer = [b'.'; BYTES];
-    assert_eq!(rt; write(sheet, &mut buffer, room), Err(51));
+    assert_eq!(rt; write(sheet, &mut buffer[..room.min(BYTES)]), Err(51));
     assert!(rt; buffer.iter().all(|b| *b == b'.'));
 }
 
 // How long a sheet's text is.
 fn length(sheet: &Passed, room: usize) -> Result<usize, u8> {
-    write(sheet, &mut [b'.'; BYTES], room)
+    write(sheet, &mut [b'.'; BYTES][..room.min(BYTES)])
 }
 
 // The sheet that a text is read into is written with this much room as that text, or refused.
 fn rewrites(rt: &impl Abort, rule: &[u8], room: usize, text: Option<&[u8]>) -> Result<(), Fail> {
-    let mut types = [TypeRow::ZERO; MOST_TYPES];
-    let mut terms = [TermRow::ZERO; MOST_TERMS];
-    let mut opens = [OpenForm::TermWord; 64];
-    let counts = text::read(rule, &mut types, &mut terms, &mut opens)?;
-    assert!(rt; counts.types <= MOST_TYPES);
-    assert!(rt; counts.terms <= MOST_TERMS);
-    let sheet = sheet_of(&types[..counts.types], &terms[..counts.terms])?;
+    let mut tables = Tables::ZERO;
+    let mut sight = [0; MOST_TERMS];
+    let sheet = tables.read(rule, &mut sight)?;
     match text {
         Some(text) => writes(rt, &sheet, room, text),
         None => refuses(rt, &sheet, room),
