@@ -36,51 +36,38 @@ pub(crate) fn shape_opening(shape: Shape) -> &'static [u8]
     }
 }
 
-// The word of a form.
-fn word_of(form: Form) -> &'static [u8]
-    ensures { result.now ≡ word form }
-{
-    &form_opening(form)[1..]
-}
-
-// The word of a shape.
-fn shape_word(shape: Shape) -> &'static [u8]
-    ensures { result.now ≡ shape_word shape }
-{
-    &shape_opening(shape)[2..]
-}
-
-// Every form, in the order of their kinds.
-const FORMS: [Form; 14] = [
-    Form::Succ,
-    Form::Ifz,
-    Form::Lam,
-    Form::Ap,
-    Form::Fix,
-    Form::Pair,
-    Form::Fst,
-    Form::Snd,
-    Form::Add,
-    Form::Sub,
-    Form::Mul,
-    Form::Get,
-    Form::Fail,
-    Form::Catch,
-];
-
 // The form of a word.
+#[tactic(auto, using(crate::proofs::Same::same_apart, crate::proofs::Same::unlike_first, crate::proofs::Same::unlike_second, crate::proofs::Same::unlike_third))]
 pub(crate) fn form_of(w: &[u8]) -> Option<Form>
     ensures { result ≡ form_of w.now }
 {
-    FORMS.iter().copied().find(|form| w == word_of(*form))
+    match w {
+        b"s" => Some(Form::Succ),
+        b"ifz" => Some(Form::Ifz),
+        b"lam" => Some(Form::Lam),
+        b"ap" => Some(Form::Ap),
+        b"fix" => Some(Form::Fix),
+        b"pair" => Some(Form::Pair),
+        b"fst" => Some(Form::Fst),
+        b"snd" => Some(Form::Snd),
+        b"add" => Some(Form::Add),
+        b"sub" => Some(Form::Sub),
+        b"mul" => Some(Form::Mul),
+        b"get" => Some(Form::Get),
+        b"fail" => Some(Form::Fail),
+        b"catch" => Some(Form::Catch),
+        _ => None,
+    }
 }
 
 // The shape of a type that a word names.
+#[tactic(auto, using(crate::proofs::Same::same_apart, crate::proofs::Same::unlike_first, crate::proofs::Same::unlike_second, crate::proofs::Same::unlike_third))]
 pub(crate) fn shape_of(w: &[u8]) -> Option<Shape>
     ensures { result ≡ shape_of w.now }
 {
-    [Shape::To, Shape::Both]
-        .iter()
-        .copied()
-        .find(|shape| w == shape_word(*shape))
+    match w {
+        b"to" => Some(Shape::To),
+        b"both" => Some(Shape::Both),
+        _ => None,
+    }
 }
