@@ -66,7 +66,8 @@ fn type_word(row: TypeRow) -> &'static str
     }
 }
 
-// The word of a term row, likewise.
+// The word of a term row, likewise. The words of forms stand in `text` too, there each after its bracket, so that the
+// writer puts both at once.
 fn term_word(row: TermRow) -> &'static str
     ensures { result.now ≡ term_word row.kind }
 {

@@ -4,7 +4,8 @@ ghost use Rattle.std.specs.Prelude.{◌≡◌, ◌<◌, ◌≤◌, length, slice
 use grammar::Fault;
 use rows::{Form, Shape, Stack, TermRow, TypeRow};
 
-// Up to three rows; those that are not there yet are 0.
+// Up to three rows; those that are not there yet are 0. Not the library's fixed vector, since an entry of the stack of
+// brackets is copied.
 #[derive(Clone, Copy)]
 pub struct Parts {
     pub(crate) count: u8,
@@ -53,7 +54,8 @@ pub struct Refusal {
     pub place: usize,
 }
 
-// The tables that are filled, with the rows made so far at their front, and the open brackets.
+// The tables that are filled, with the rows made so far at their front, and the open brackets. A `Stack` by value for
+// each table would hide its slice from the caller; so each method says that the slices stay the same.
 #[derive(Drop)]
 pub(crate) struct Reader<'a, 'b> {
     pub(crate) types: &'a mut [TypeRow],

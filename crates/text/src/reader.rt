@@ -52,15 +52,14 @@ impl<'a, 'b> Reader<'a, 'b> {
             let start = lexer::trim(rest);
             let place = text.len() - start.len();
             let refused = |fault| Refusal { fault, place };
-            match lexer::token(start) {
-                Ok(None) => return row.ok_or(refused(Fault::Misplaced)),
-                Ok(Some(_)) if row.is_some() => return Err(refused(Fault::Misplaced)),
-                Ok(Some((token, after))) => {
-                    row = self.turn(token).map_err(refused)?;
-                    rest = after;
-                }
-                Err(fault) => return Err(refused(fault)),
+            let Some((token, after)) = lexer::token(start).map_err(refused)? else {
+                return row.ok_or(refused(Fault::Misplaced));
+            };
+            if row.is_some() {
+                return Err(refused(Fault::Misplaced));
             }
+            row = self.turn(token).map_err(refused)?;
+            rest = after;
         }
     }
 }
@@ -83,7 +82,8 @@ fn fill(
     Ok(reader.made)
 }
 
-// Fills the front of both tables; what stands behind is left, and all of it after a refusal is of no account.
+// Fills the front of both tables; what stands behind is left, and all of it after a refusal is of no account. Apart from
+// `fill`, since of a struct made over `&mut types[..n]` the maker learns no more than the lengths.
 fn fill_front(
     text: &[u8],
     types: &mut [TypeRow],

@@ -41,6 +41,7 @@ impl Sink for Room {
 }
 
 // Writes the bytes into a buffer that the caller hands over, from its front on; the place after them stands beside it.
+// The library's `Cursor` may write less than it is given, and its errors are those of input and output.
 #[derive(Drop)]
 pub(crate) struct Front<'a> {
     pub buffer: &'a mut [u8],

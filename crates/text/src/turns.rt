@@ -29,7 +29,7 @@ impl Parts {
         requires { length (listed self) < 3 }
         ensures { listed result ≡ listed self ++ row ∷ [] }
     {
-        // written at a counted place the array would go through memory, and reading takes half as long again
+        // written at a counted place the array would go through memory, and reading takes a third longer
         let [a, b, _] = self.rows;
         match self.count {
             0 => Parts {
@@ -96,6 +96,7 @@ fn give(opens: &mut Stack<OpenForm>, part: Part) -> Result<Option<u32>, Fault>
     ensures turned { (s : Tables) → turned result s (brackets opens.new) ≡ given part s (brackets opens.old) }
     ensures capacity { room opens.new ≡ room opens.old }
 {
+    // a match, since by `ok_or(..)?` the bracket with one part more would go through memory
     match (opens.top(), part) {
         (None, Part::Term(y)) => Ok(Some(y)),
         (None, Part::Type(_)) => Err(Fault::Misplaced),

@@ -21,6 +21,7 @@ fn write_counted(sheet: &Passed, buffer: &mut [u8]) -> Result<usize, WriteRefusa
     };
     put_term(sheet, last, &mut room)?;
     let mut front = Front { buffer, written: 0 };
+    // the room has been counted, so that this refuses nothing
     put_term(sheet, last, &mut front)?;
     Ok(front.written)
 }
