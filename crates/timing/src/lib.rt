@@ -4,21 +4,6 @@
 use rows::{MOST_TERMS, MOST_TYPES, TermRow, TypeRow};
 use text::OpenForm;
 
-fn again(
-    rule: &[u8],
-    times: u32,
-    types: &mut [TypeRow],
-    terms: &mut [TermRow],
-    opens: &mut [OpenForm],
-) -> u64 {
-    (0..times)
-        .filter_map(|_| text::read(rule, types, terms, opens).ok())
-        .fold(0, |made: u64, counts| {
-            made.wrapping_add(counts.types as u64)
-                .wrapping_add(counts.terms as u64)
-        })
-}
-
 // Reads `rule` so many times, with so many type rows and term rows at most, and answers how many rows the readings
 // made in all.
 #[unsafe(no_mangle)]
@@ -26,11 +11,12 @@ pub extern "C" fn read_again(rule: &[u8], times: u32, types: u32, terms: u32) ->
     let mut type_rows = [TypeRow::ZERO; MOST_TYPES];
     let mut term_rows = [TermRow::ZERO; MOST_TERMS];
     let mut opens = [OpenForm::TermWord; 4_096];
-    again(
-        rule,
-        times,
-        &mut type_rows[..(types as usize).min(MOST_TYPES)],
-        &mut term_rows[..(terms as usize).min(MOST_TERMS)],
-        &mut opens,
-    )
+    let types = &mut type_rows[..(types as usize).min(MOST_TYPES)];
+    let terms = &mut term_rows[..(terms as usize).min(MOST_TERMS)];
+    (0..times)
+        .filter_map(|_| text::read(rule, types, terms, &mut opens).ok())
+        .fold(0, |made: u64, counts| {
+            made.wrapping_add(counts.types as u64)
+                .wrapping_add(counts.terms as u64)
+        })
 }
