@@ -158,6 +158,7 @@ impl<'a, 'b> Reader<'a, 'b> {
     {
         let made = self.made.types;
         let place = self.place_of(row);
+        // a `give` of its own: with one after both ways a text of 1,020 types takes two fifths longer
         if place < made {
             return give(self.opens, Part::Type(place as u32));
         }
