@@ -51,9 +51,8 @@ pub(crate) fn bad_type(types: &[TypeRow]) -> Option<u32>
     (0..types.len() as u32).find(|&p| !is_good_type(types, p))
 }
 
-// Whether a field that is used is below the limit, and any other is 0.
-// A field that is used is below a limit, and one that is not is 0. An Option of the limit would be made at each call only
-// to be taken apart.
+// Whether a field that is used is below the limit, and any other is 0. An Option of the limit would be made at each call
+// only to be taken apart.
 fn is_placed(used: bool, x: u32, limit: u32) -> bool
     ensures { result ≡ placed used x limit }
 {
