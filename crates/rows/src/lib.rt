@@ -8,7 +8,7 @@ mod stack;
 mod tables;
 
 pub use forms::{Form, Head, Shape, form_of};
-pub use search::find_type;
+pub use search::{find_type, same_row};
 pub use stack::{Full, Stack};
 pub use tables::{TermRow, TypeRow};
 

@@ -1,4 +1,4 @@
-// What a stack does.
+// What a stack does. Its room is a value's and not a type's, so each call that changes a stack says that the room stays.
 ghost use Rattle.std.specs.Prelude.{◌≡◌, ◌<◌, [], ◌∷◌, length, drop, is_ok, if◌then◌else◌, Some, nat_lt, slice_set};
 ghost use Rattle.std.specs.List.{slice_get};
 ghost use Rattle.rows.specs.Views.{view, room};
