@@ -65,29 +65,29 @@ pub fn token<'a>(text: &'a [u8]) -> Result<Option<(Token<'a>, &'a [u8])>, Fault>
     let [first, rest @ ..] = text else {
         return Ok(None);
     };
-    match class_of(*first) {
-        Class::Open => Ok(Some((Token::Open, rest))),
-        Class::Close => Ok(Some((Token::Close, rest))),
+    let found = match class_of(*first) {
+        Class::Open => (Token::Open, rest),
+        Class::Close => (Token::Close, rest),
         Class::Hash => {
             let (n, after) = number(rest).ok_or(Fault::BadNumber)?;
-            Ok(Some((Token::Name(n), after)))
+            (Token::Name(n), after)
         }
         Class::Digit => {
             let (n, after) = number(text).ok_or(Fault::BadNumber)?;
-            Ok(Some((Token::Number(n), after)))
+            (Token::Number(n), after)
         }
         Class::Letter => {
             let (word, after) = text.split_at(run(text, Class::Letter));
-            Ok(Some((Token::Word(word), after)))
+            (Token::Word(word), after)
         }
-        Class::Space | Class::Other => Err(Fault::BadByte),
-    }
+        Class::Space | Class::Other => return Err(Fault::BadByte),
+    };
+    Ok(Some(found))
 }
 
 // The text without the spaces at its front.
 pub fn trim(text: &[u8]) -> &[u8]
     ensures { result.now ≡ trimmed text.now }
 {
-    let (_, rest) = text.split_at(run(text, Class::Space));
-    rest
+    &text[run(text, Class::Space)..]
 }

@@ -1,4 +1,5 @@
-// Which step is made, by the mode and the top frame together.
+// Which step is made, by the mode and the top frame together: they are matched as a pair, as the rules of the project have
+// it, and not looked up in a table of functions.
 ghost use Rattle.std.specs.Prelude.{◌≡◌, true};
 ghost use Rattle.engine.specs.declared.state.Frame.TheVariants.{CalcFirst};
 ghost use Rattle.engine.specs.Stores.{top_of};
