@@ -1,6 +1,5 @@
 pub mod Same
 pub mod Tops
-pub mod Tables
 pub mod Closes
 pub mod Lexes
 pub mod Fuel
