@@ -1,3 +1,4 @@
 mod Lines
+mod Looks
 mod PriceRows
 mod Yields

@@ -1,16 +1,10 @@
--- What a search finds in rows that are not refused.
-use Rattle.std.proofs.Common.{◌≡◌, ℕ, zero, suc, ◌+◌, ◌<◌, ◌≤◌, false, List, [], ◌∷◌, length, get_or, is_some, Some, None, Result, Ok, Err, sym, refl, ap, ⊎_elim, arith}
-use Rattle.std.specs.List.Sorted.{IsSearchInRange, IsBinarySearchResult, IsNonDecreasingBy}
-use Rattle.std.specs.Ordering.{nat_cmp, ordering_index}
-use Rattle.std.specs.Result.{result_ok}
-use Rattle.std.specs.Option.{MatchOption}
-use Rattle.std.proofs.lemmas.Cmp.{ranked}
-use Rattle.std.proofs.lemmas.List.Sorted.{IsNonDecreasingBy-from_default}
-use Rattle.std.proofs.lemmas.Bool.{cases_lt}
-use Rattle.std.proofs.lemmas.Bool.Decides.{nat_tests}
+-- What passes over rows find of their refusal and of their table.
+use Rattle.std.proofs.Common.{◌≡◌, ℕ, zero, suc, ◌+◌, ◌-◌, ◌/◌, ◌<◌, ◌≤◌, false, eqb, List, [], ◌∷◌, length, get_or, is_some, Some, None, sym, refl, ◌∙◌, ⊎_elim, arith}
+use Rattle.std.proofs.lemmas.Bool.{ne_eqb, eq-eqb, cases_lt, cond-true, cond-false}
 use Rattle.counters.specs.declared.price.PriceRow.{PriceRow}
 use Rattle.counters.specs.PriceLists.{price_table, first_bad, prices_outcome}
 use Rattle.counters.specs.LawfulPrices.{passes, few_good}
+use Rattle.counters.proofs.Looks.{digits, fewer}
 
 floors : (rows : List PriceRow) (least i : ℕ) → is_some (first_bad rows least i) ≡ false → (k : ℕ) (d : PriceRow) → k < length rows → least ≤ (get_or rows k d).article
 floors [] least i h k d lt = absurd (omega arith)
@@ -26,32 +20,35 @@ ascending (r ∷ rs) least i h (suc j) (suc k) d lt lt' = ascending rs (r.articl
 -- A row has its article's price.
 found : (rows : List PriceRow) (least i : ℕ) → is_some (first_bad rows least i) ≡ false → (k : ℕ) (d : PriceRow) → k < length rows → (q : ℕ) → (get_or rows k d).article ≡ q → Some (get_or rows k d).price ≡ price_table rows q
 found [] least i h k d lt q e = absurd (omega arith)
-found (r ∷ rs) least i h zero d lt q e = grind (arith, nat_tests)
+found (r ∷ rs) least i h zero d lt q e = sym (cond-true (eqb r.article q) _ _ (eq-eqb r.article q e))
 found (r ∷ rs) least i h (suc k) d lt q e =
     let p = passes r rs least i h in
-    grind (arith, nat_tests, floors rs (r.article + 1) (i + 1) p.rest k d (omega arith), found rs (r.article + 1) (i + 1) p.rest k d (omega arith) q e)
+    found rs (r.article + 1) (i + 1) p.rest k d (omega arith) q e
+    ∙ sym (cond-false (eqb r.article q) _ _ (ne_eqb r.article q (λ same. omega (arith, floors rs (r.article + 1) (i + 1) p.rest k d (omega arith), e))))
 
 -- An article in no row has no price.
-missing : (rows : List PriceRow) (q : ℕ) (d : PriceRow) → ((k : ℕ) → k < length rows → (get_or rows k d).article ≡ q → ⊥) → None ≡ price_table rows q
+pub missing : (rows : List PriceRow) (q : ℕ) (d : PriceRow) → ((k : ℕ) → k < length rows → (get_or rows k d).article ≡ q → ⊥) → None ≡ price_table rows q
 missing [] q d h = refl
-missing (r ∷ rs) q d h = grind (arith, nat_tests, h 0 (omega arith), missing rs q d (λ k lt. h (suc k) (omega arith)))
+missing (r ∷ rs) q d h =
+    missing rs q d (λ k lt. h (suc k) (omega arith)) ∙ sym (cond-false (eqb r.article q) _ _ (ne_eqb r.article q (h 0 (omega arith))))
 
 -- Rows that are not refused.
-module _ (rows : List PriceRow) (passed : is_some (prices_outcome rows) ≡ false) (q : ℕ) where
-  none : PriceRow
-  none = record { article = 0; price = 0 }
+module _ (rows : List PriceRow) (passed : is_some (prices_outcome rows) ≡ false) where
+  pub found_at : (k : ℕ) (d : PriceRow) → k < length rows → (q : ℕ) → (get_or rows k d).article ≡ q → Some (get_or rows k d).price ≡ price_table rows q
+  found_at = found rows 0 0 (few_good rows passed).1
 
-  -- Their articles rise, as a binary search asks.
-  rising : IsNonDecreasingBy (λ row. ordering_index (nat_cmp row.article q)) rows
-  rising = IsNonDecreasingBy-from_default (λ row. ordering_index (nat_cmp row.article q)) rows none (λ i j le inside.
-      grind (arith, nat_tests, ascending rows 0 0 (few_good rows passed).1 i j none, λ (same : i ≡ j). ap (λ k. (get_or rows k none).article) same))
+  order : (j k : ℕ) (d : PriceRow) → j < k → k < length rows → (get_or rows j d).article < (get_or rows k d).article
+  order = ascending rows 0 0 (few_good rows passed).1
 
-  -- A place that it finds has the article's price, and where it finds none the article has no price.
-  pub priced : (r : Result ℕ ℕ) → IsSearchInRange r (length rows) → IsBinarySearchResult (λ row. nat_cmp row.article q) rows r → MatchOption (result_ok r) (None ≡ price_table rows q) (λ place. (d : PriceRow) → Some (get_or rows place d).price ≡ price_table rows q)
-  priced (Ok k) inside equal = λ d. found rows 0 0 (few_good rows passed).1 k d inside q (ranked _ q _ (sym (equal d)))
-  priced (Err k) inside parted =
-      missing rows q none
-      (λ j lt same. ⊎_elim
-      (λ (s : j < k). omega (arith, ranked _ q _ (sym ((parted rising).0 j none (omega arith) s)), same))
-      (λ (s : k ≤ j). omega (arith, ranked _ q _ (sym ((parted rising).1 j none s lt)), same))
-      (cases_lt j k))
+  -- A look leaves at most half of the rows, which has a binary digit less.
+  pub look_less : (low high m : ℕ) → high ≤ length rows → low < high → m ≤ (high - low) / 2 → digits 11 m < digits 11 (high - low)
+  look_less low high m le lt half = fewer 11 m (high - low) (omega arith) half (omega (arith, (few_good rows passed).0))
+
+  -- Where the middle row is below the article, so are the rows before it; and where it is above, so are those behind it.
+  pub below_middle : (m : ℕ) (d : PriceRow) (q : ℕ) → m < length rows → (get_or rows m d).article < q → (k : ℕ) → k < m + 1 → (get_or rows k d).article < q
+  below_middle m d q lt le k lt' =
+      ⊎_elim (λ (s : k < m). omega (arith, order k m d s lt)) (λ (s : m ≤ k). let e : k ≡ m = omega arith in rw e le) (cases_lt k m)
+
+  pub above_middle : (m : ℕ) (d : PriceRow) (q : ℕ) → q < (get_or rows m d).article → (k : ℕ) → m ≤ k → k < length rows → q < (get_or rows k d).article
+  above_middle m d q lt k le lt' =
+      ⊎_elim (λ (s : m < k). omega (arith, order m k d s lt')) (λ (s : k ≤ m). let e : k ≡ m = omega arith in rw e lt) (cases_lt m k)

@@ -30,17 +30,21 @@ impl Basket {
         }
     }
 
-    // Makes this the basket of these lines, or refuses them and leaves it as it was. A price list is made in the same four
-    // lines, and a trait for both would be longer than they are.
+    // Makes this the basket of these lines, or refuses them and leaves it as it was. A price list is made in the same way,
+    // and a trait for both would be longer than they are.
     pub fn fill(&mut self, lines: &[Line]) -> Result<(), Refusal>
         ensures result { outcome result ≡ basket_outcome lines.now }
         ensures filled { is_ok result ≡ true → of_basket self.new ≡ basket_table lines.now }
         ensures kept { is_ok result ≡ false → self.new ≡ self.old }
     {
-        let lines = ArrayVec::try_from(lines).map_err(|_| Refusal::TooManyLines)?;
-        check_fields(&lines)?;
-        *self = Basket { lines };
-        Ok(())
+        if lines.len() > MOST_LINES {
+            return Err(Refusal::TooManyLines);
+        }
+        check_fields(lines)?;
+        self.lines.clear();
+        self.lines
+            .try_extend_from_slice(lines)
+            .map_err(|_| Refusal::TooManyLines)
     }
 }
 
