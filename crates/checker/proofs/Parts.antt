@@ -21,6 +21,10 @@ use Rattle.checker.proofs.Typings.{type_step}
 abbrev pub part : TermRow → ℕ → ℕ
 part r k = get_or (r.a ∷ r.b ∷ r.c ∷ []) k 0
 
+-- the name that a part is under, by any number that is the part's place
+pub same_bound : (ts : List TypeRow) (r : TermRow) (k i : ℕ) → k ≡ i → bound_at ts r k ≡ bound_at ts r i
+same_bound ts r k i e = ap (bound_at ts r) e
+
 -- how many names part k is under
 abbrev pub opened : List TypeRow → TermRow → ℕ → ℕ
 opened ts r k = cond (is_some (bound_at ts r k)) 1 0

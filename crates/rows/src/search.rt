@@ -16,7 +16,8 @@ pub fn same_row(p: TypeRow, q: TypeRow) -> bool
 pub fn find_type(made: &[TypeRow], row: TypeRow) -> usize
     ensures { result ≡ row_place row made.now }
 {
-    made.iter()
-        .position(|earlier| row == *earlier)
-        .unwrap_or(made.len())
+    match made.iter().position(|earlier| row == *earlier) {
+        Some(place) => place,
+        None => made.len(),
+    }
 }

@@ -6,7 +6,7 @@ use Rattle.checker.specs.Depths.{deep_at}
 use Rattle.checker.specs.Shapes.{bound_at}
 use Rattle.checker.specs.Types.{under, settled, own_type, type_at}
 use Rattle.checker.proofs.Counts.{arity_small}
-use Rattle.checker.proofs.Parts.{part_taken, parts_taken, room_part, found, done_none, done_at, done_ok, done_err, type_parts, ok_or_settled}
+use Rattle.checker.proofs.Parts.{same_bound, part_taken, parts_taken, room_part, found, done_none, done_at, done_ok, done_err, type_parts, ok_or_settled}
 use Rattle.checker.proofs.Sights.{same_refl, same_trans, length_under, around}
 use Rattle.checker.proofs.tables.Tables.+type_of.Goals as goal
 use Rattle.checker.proofs.tables.Tables.+type_of.Goals.{in-Ok, in-Err}
@@ -18,10 +18,12 @@ pub enter-requires : goal.enter-requires
 enter-requires t c =
     let ts = c.args.self.now.types.now in
     let es = c.args.self.now.terms.now in
+    let r = get_or es c.args.p no_row in
     let names = view c.args.names.now in
-    let h = part_taken (get_or es c.args.p no_row) _ _ c.arity_of.ensures.value c.loop-i-test.true in
+    let h = part_taken r _ _ c.arity_of.ensures.value c.loop-i-test.true in
+    let bound : c.bound_at-bound.result ≡ bound_at ts r c.loop-i.i = c.bound_at-bound.ensures ∙ omega (arith, same_bound ts r, h.0, arity_small r.kind) in
     let w = room_part (room c.args.names.now) ts es c.args.self.now.placed c.args.p (length names) c.requires.within c.requires.deep c.loop-i.i h.0 in
-    omega (arith, w.fits, ap length c.loop-i.invariant.0.entries, c.loop-i.invariant.0.capacity, ap {B = ℕ} (λ o. cond (is_some o) 1 0) c.bound_at-bound.ensures)
+    omega (arith, w.fits, ap length c.loop-i.invariant.0.entries, c.loop-i.invariant.0.capacity, ap {B = ℕ} (λ o. cond (is_some o) 1 0) bound)
 
 pub type_of-requires : goal.type_of-requires
 type_of-requires t c =
@@ -31,7 +33,8 @@ type_of-requires t c =
     let names = view c.args.names.now in
     let h = part_taken r _ _ c.arity_of.ensures.value c.loop-i-test.true in
     let w = room_part (room c.args.names.now) ts es c.args.self.now.placed c.args.p (length names) c.requires.within c.requires.deep c.loop-i.i h.0 in
-    let entered : view c.enter.new.names ≡ under (bound_at ts r c.loop-i.i) names = c.enter.ensures.entries ∙ (λ j. under (c.bound_at-bound.ensures j) (c.loop-i.invariant.0.entries j)) in
+    let bound : c.bound_at-bound.result ≡ bound_at ts r c.loop-i.i = c.bound_at-bound.ensures ∙ omega (arith, same_bound ts r, h.0, arity_small r.kind) in
+    let entered : view c.enter.new.names ≡ under (bound_at ts r c.loop-i.i) names = c.enter.ensures.entries ∙ (λ j. under (bound j) (c.loop-i.invariant.0.entries j)) in
     let deep = ap length entered ∙ length_under (bound_at ts r c.loop-i.i) names in
     let wide = c.enter.ensures.capacity ∙ c.loop-i.invariant.0.capacity in
     (omega (arith, h.1, w.below, c.decreases), (omega (arith, h.1, w.below, c.requires.within), (λ j. deep_at (wide j) es (h.1 j) (deep j)) ∙ w.shallow))
@@ -45,7 +48,8 @@ loop-i-preserved t c =
     let F = found ts es c.args.p names in
     let i = c.loop-i.i in
     let h = part_taken r _ _ c.arity_of.ensures.value c.loop-i-test.true in
-    let entered : view c.enter.new.names ≡ under (bound_at ts r i) names = c.enter.ensures.entries ∙ (λ j. under (c.bound_at-bound.ensures j) (c.loop-i.invariant.0.entries j)) in
+    let bound : c.bound_at-bound.result ≡ bound_at ts r i = c.bound_at-bound.ensures ∙ omega (arith, same_bound ts r, h.0, arity_small r.kind) in
+    let entered : view c.enter.new.names ≡ under (bound_at ts r i) names = c.enter.ensures.entries ∙ (λ j. under (bound j) (c.loop-i.invariant.0.entries j)) in
     let it : c.type_of.result ≡ F i = c.type_of.ensures.value ∙ (λ j. type_at ts es (h.1 j) (entered j)) in (
       same_trans _ _ _ c.loop-i.invariant.0
           (around c.loop-i.names c.enter.new.names c.type_of.new.names c.leave.new.names c.bound_at-bound.result
