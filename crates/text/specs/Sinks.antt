@@ -28,7 +28,7 @@ sets_append : (xs ys l : List ℕ) (i : ℕ) → sets (sets l i xs) (i + length 
 sets_append [] ys l i = ap (λ k. sets l k ys) (add-zero i)
 sets_append (x ∷ xs) ys l i = ap (λ k. sets (sets (set l i x) (suc i) xs) k ys) (omega arith) ∙ sets_append xs ys (set l i x) (suc i)
 
-wrote_both : (o m n : List ℕ) (a b c : ℕ) (xs ys : List ℕ) → Wrote o m a b xs → Wrote m n b c ys → Wrote o n a c (xs ++ ys)
+pub wrote_both : (o m n : List ℕ) (a b c : ℕ) (xs ys : List ℕ) → Wrote o m a b xs → Wrote m n b c ys → Wrote o n a c (xs ++ ys)
 wrote_both o m n a b c xs ys p q =
     record {
       ends = let l = length-append xs ys in omega (arith, p.ends, q.ends);

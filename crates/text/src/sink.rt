@@ -1,5 +1,5 @@
 // Where the bytes of a text go: a count of the room for them, or the front of a buffer.
-ghost use Rattle.std.specs.Prelude.{◌≡◌, ℕ, ◌+◌, ◌<◌, List, length};
+ghost use Rattle.std.specs.Prelude.{◌≡◌, ℕ, ◌+◌, ◌<◌, ◌≤◌, List, length};
 ghost use Rattle.text.specs.Sinks.{SinkLaws, Puts, Wrote, room_laws, front_laws};
 
 use crate::refusal::WriteRefusal;
@@ -31,6 +31,7 @@ impl Sink for Room {
 
     ghost laws = { room_laws };
 
+    #[inline(always)]
     fn put(&mut self, bytes: &[u8]) -> Result<(), WriteRefusal> {
         self.left = self
             .left
@@ -38,6 +39,21 @@ impl Sink for Room {
             .ok_or(WriteRefusal::NoRoom)?;
         Ok(())
     }
+}
+
+// Writes bytes from a place on, and answers the place after them. A loop, since most runs have one to six bytes: those are
+// written before a call of memcpy returns.
+#[inline(always)]
+fn store(buffer: &mut [u8], from: usize, bytes: &[u8]) -> usize
+    requires { from + length bytes.now ≤ length buffer.old }
+    ensures { Wrote buffer.old buffer.new from result bytes.now }
+{
+    let mut at = from;
+    for b in bytes {
+        buffer[at] = *b;
+        at += 1;
+    }
+    at
 }
 
 // Writes the bytes into a buffer that the caller hands over, from its front on; the place after them stands beside it.
@@ -55,13 +71,13 @@ impl Sink for Front<'_> {
 
     ghost laws = { front_laws };
 
+    #[inline(always)]
     fn put(&mut self, bytes: &[u8]) -> Result<(), WriteRefusal> {
         let end = self.written.saturating_add(bytes.len());
         if end > self.buffer.len() {
             return Err(WriteRefusal::NoRoom);
         }
-        self.buffer[self.written..end].copy_from_slice(bytes);
-        self.written = end;
+        self.written = store(self.buffer, self.written, bytes);
         Ok(())
     }
 }

@@ -32,6 +32,10 @@ fn put_type<S: Sink>(sheet: &Passed, p: u32, out: &mut S) -> Result<(), WriteRef
 fn put_number<S: Sink>(n: u32, out: &mut S) -> Result<(), WriteRefusal>
     ensures { Puts S.takes S.lacks out.old (decimal n) result out.new }
 {
+    // a digit alone goes without the buffer, which takes longer to make than the digit to write
+    if n < 10 {
+        return out.put(&[b'0' + n as u8]);
+    }
     out.put(Buffer::new().format(n).as_bytes())
 }
 
